@@ -1,0 +1,9 @@
+pub mod Fewer
+pub mod Weaker
+pub mod Unique
+pub mod Six
+pub mod Answers
+pub mod Checks
+pub mod Limits
+pub mod Length
+pub mod Examples

@@ -1,0 +1,12 @@
+pub mod Lists
+pub mod Number
+pub mod Word
+pub mod Line
+pub mod Machine
+pub mod Closed
+pub mod WellFormed
+pub mod Typing
+pub mod Strength
+pub mod Inference
+pub mod Report
+pub mod Session

@@ -1,0 +1,155 @@
+-- The machine of the four calls, and the three calls that change it.
+-- Document 01, "The four calls".
+use Prim.Native.Nat.{ℕ, _-_}
+use mathlib.Core.Bool.{Bool, true, false, not, cond, _&&_, _||_}
+use mathlib.Core.List.{List, [], _∷_, _++_}
+use lib.Dec.{eqb, ltb, leb}
+use lib.ListN.{length, getD, take, set}
+use Rattle.model.specs.Lists.{anyOf, allOf, contains}
+use Rattle.model.specs.Line.{lineOf}
+use Rattle.model.specs.declared.TypeForm.{TypeForm}
+use Rattle.model.specs.declared.TypeForm.the-variants.{Int, Any, Arrow}
+use Rattle.model.specs.declared.TypeRow.{TypeRow}
+use Rattle.model.specs.declared.Param.{Param}
+use Rattle.model.specs.declared.Term.{Term}
+use Rattle.model.specs.declared.Term.the-variants.{Lam, App, Op, Var, Num, Enc}
+use Rattle.model.specs.declared.TermRow.{TermRow}
+use Rattle.model.specs.declared.Line.{Line}
+use Rattle.model.specs.declared.Line.the-variants.{TypeLine, ParamLine, TermLine, NoForm}
+
+-- "The machine they follow is three lists: type rows, parameters, term rows."
+pub record Machine : Type 0 where
+  pub types : List TypeRow
+  pub params : List Param
+  pub terms : List TermRow
+
+-- "Fresh: all empty."
+abbrev pub freshMachine : Machine
+freshMachine = record { types = []; params = []; terms = [] }
+
+-- The entry with a number. None is asked for past the end of its list, where these have a row that stands for nothing.
+abbrev pub typeAt : Machine → ℕ → TypeForm
+typeAt m t = getD (m .types) t (record { form = Int }) .form
+
+abbrev pub paramAt : Machine → ℕ → Param
+paramAt m p = getD (m .params) p (record { qualifier = 0; typerow = 0 })
+
+abbrev pub termAt : Machine → ℕ → Term
+termAt m i = getD (m .terms) i (record { term = Lam 0 0 }) .term
+
+-- "A row's children are the rows that it names as `b`, `f`, `a`, `l` or `r`."
+abbrev pub children : Term → List ℕ
+children (Lam p b) = b ∷ []
+children (App f a) = f ∷ a ∷ []
+children (Op o l r) = l ∷ r ∷ []
+children (Var p) = []
+children (Num n) = []
+children (Enc s n) = []
+
+-- The parameters that a term row names, and of these the one that it binds.
+abbrev pub named : Term → List ℕ
+named (Lam p b) = p ∷ []
+named (App f a) = []
+named (Op o l r) = []
+named (Var p) = p ∷ []
+named (Num n) = []
+named (Enc s n) = []
+
+abbrev pub binds : Term → List ℕ
+binds (Lam p b) = p ∷ []
+binds (App f a) = []
+binds (Op o l r) = []
+binds (Var p) = []
+binds (Num n) = []
+binds (Enc s n) = []
+
+-- The type rows that a type row names.
+abbrev pub parts : TypeForm → List ℕ
+parts Int = []
+parts Any = []
+parts (Arrow q t q′ t′) = t ∷ t′ ∷ []
+
+-- A row is used when some row standing names it as a child; a parameter is bound when some LAM standing names it.
+abbrev pub used : List TermRow → ℕ → Bool
+used rows child = anyOf (λ row. contains child (children (row .term))) rows
+
+abbrev pub bound : List TermRow → ℕ → Bool
+bound rows p = anyOf (λ row. contains p (binds (row .term))) rows
+
+-- "one row named as both children"
+abbrev pub twice : List ℕ → Bool
+twice [] = false
+twice (c ∷ cs) = contains c cs || twice cs
+
+-- The number of the first check that does not hold, and 0 where all hold.
+unfoldable pub firstFailing : List (ℕ × Bool) → ℕ
+firstFailing [] = 0
+firstFailing (check ∷ checks) = cond (check .1) (firstFailing checks) (check .0)
+
+-- "Add checks 1 to 8 in that order": 2 own number is not the next; 3 list full; 4 type row not declared before this line
+-- (in a T line: not below own number).
+unfoldable pub typeRefusal : Machine → ℕ → TypeForm → ℕ
+typeRefusal m i form =
+    firstFailing
+    ((2, eqb i (length (m .types)))
+    ∷ (3, ltb (length (m .types)) 64)
+    ∷ (4, allOf (λ t. ltb t i) (parts form))
+    ∷ [])
+
+unfoldable pub paramRefusal : Machine → ℕ → Param → ℕ
+paramRefusal m p param =
+    firstFailing
+    ((2, eqb p (length (m .params)))
+    ∷ (3, ltb (length (m .params)) 64)
+    ∷ (4, ltb (param .typerow) (length (m .types)))
+    ∷ [])
+
+-- 5 parameter not declared; 6 child not below own number; 7 child already used, or one row named as both children;
+-- 8 LAM of a parameter already bound.
+unfoldable pub termRefusal : Machine → ℕ → Term → ℕ
+termRefusal m i term =
+    firstFailing
+    ((2, eqb i (length (m .terms)))
+    ∷ (3, ltb (length (m .terms)) 256)
+    ∷ (5, allOf (λ p. ltb p (length (m .params))) (named term))
+    ∷ (6, allOf (λ c. ltb c i) (children term))
+    ∷ (7, not (anyOf (used (m .terms)) (children term)) && not (twice (children term)))
+    ∷ (8, not (anyOf (bound (m .terms)) (binds term)))
+    ∷ [])
+
+-- What a call returns, and the machine after it.
+pub record Change : Type 0 where
+  pub number : ℕ
+  pub machine : Machine
+
+-- "An accepted call returns 0." "A refused call leaves the lists .. unchanged."
+unfoldable pub settled : Machine → ℕ → Machine → Change
+settled m number after = record { number = number; machine = cond (eqb number 0) after m }
+
+-- "appends one entry to its list"; 1: none of the forms.
+unfoldable pub entered : Machine → Line → Change
+entered m (TypeLine i form) =
+    settled m (typeRefusal m i form) (record { types = m .types ++ (record { form = form } ∷ []); params = m .params; terms = m .terms })
+entered m (ParamLine p param) =
+    settled m (paramRefusal m p param) (record { types = m .types; params = m .params ++ (param ∷ []); terms = m .terms })
+entered m (TermLine i term) =
+    settled m (termRefusal m i term) (record { types = m .types; params = m .params; terms = m .terms ++ (record { term = term } ∷ []) })
+entered m NoForm = settled m 1 m
+
+-- **Add** (a line).
+unfoldable pub added : Machine → List ℕ → Change
+added m line = entered m (lineOf line)
+
+-- **Redeclare** (parameter, code 0 to 70): "replaces that parameter's qualifier"; "redeclare 5, then 12".
+unfoldable pub redeclared : Machine → ℕ → ℕ → Change
+redeclared m p code =
+    settled m
+    (firstFailing ((5, ltb p (length (m .params))) ∷ (12, leb code 70) ∷ []))
+    (record { types = m .types; params = set (m .params) p (record { qualifier = code; typerow = paramAt m p .typerow }); terms = m .terms })
+
+-- **Take-back**: "drops the last term row"; 9 with no term row.
+unfoldable pub takenBack : Machine → Change
+takenBack m =
+    settled m
+    (firstFailing ((9, ltb 0 (length (m .terms))) ∷ []))
+    (record { types = m .types; params = m .params; terms = take (length (m .terms) - 1) (m .terms) })

@@ -1,0 +1,61 @@
+-- The words of a line and of the report, with their codes.
+-- Document 01, "Schemes and their order" and "Lines and the table".
+use Prim.Native.Nat.{ℕ, _+_}
+use mathlib.Core.Bool.{Bool, true, false, cond}
+use mathlib.Core.List.{List, [], _∷_}
+use lib.Dec.{eqb}
+use lib.ListN.{getD}
+use Rattle.model.specs.Lists.{same, bytes}
+use Rattle.model.specs.Number.{numberOf}
+use Rattle.model.specs.declared.Field.{Field}
+use Rattle.model.specs.declared.Field.the-variants.{Value, NoValue}
+
+-- "A qualifier is PLAIN, FHE, OP, DET, MH, AH or RAND; codes 0 to 6 in that order."
+abbrev pub qualifierWords : List (List ℕ)
+qualifierWords = bytes "PLAIN" ∷ bytes "FHE" ∷ bytes "OP" ∷ bytes "DET" ∷ bytes "MH" ∷ bytes "AH" ∷ bytes "RAND" ∷ []
+
+-- "`o` one of the five operations"
+abbrev pub operationWords : List (List ℕ)
+operationWords = bytes "ADD" ∷ bytes "MUL" ∷ bytes "EQ" ∷ bytes "LT" ∷ bytes "GT" ∷ []
+
+-- The bytes spell the word: capitals only.
+abbrev pub spells : List ℕ → List ℕ → Bool
+spells s word = same s word
+
+-- The place of the word in a list of words, counted from c.
+abbrev pub placeIn : ℕ → List (List ℕ) → List ℕ → Field
+placeIn c [] s = NoValue
+placeIn c (word ∷ words) s = cond (spells s word) (Value c) (placeIn (c + 1) words s)
+
+-- The first value, and the second where there is none.
+abbrev pub orElse : Field → Field → Field
+orElse (Value n) other = Value n
+orElse NoValue other = other
+
+-- "a named qualifier variable (code 7 + its number)"
+abbrev pub variableCode : Field → Field
+variableCode (Value k) = Value (k + 7)
+variableCode NoValue = NoValue
+
+-- "`g0` to `g63`"
+abbrev pub variableOf : List ℕ → Field
+variableOf [] = NoValue
+variableOf (b ∷ bs) = cond (eqb b 103) (variableCode (numberOf 63 bs)) NoValue
+
+-- "`q` is a qualifier word or `g0` to `g63`"
+unfoldable pub qualifierOf : List ℕ → Field
+qualifierOf s = orElse (placeIn 0 qualifierWords s) (variableOf s)
+
+-- "`s` one of the six schemes": a qualifier word that is not PLAIN.
+abbrev pub schemeWords : List (List ℕ)
+schemeWords = bytes "FHE" ∷ bytes "OP" ∷ bytes "DET" ∷ bytes "MH" ∷ bytes "AH" ∷ bytes "RAND" ∷ []
+
+unfoldable pub schemeOf : List ℕ → Field
+schemeOf s = placeIn 1 schemeWords s
+
+unfoldable pub operationOf : List ℕ → Field
+operationOf s = placeIn 0 operationWords s
+
+-- The word of a qualifier's code, as the report has it. No code above 6 is asked for.
+unfoldable pub qualifierWord : ℕ → List ℕ
+qualifierWord c = getD qualifierWords c []

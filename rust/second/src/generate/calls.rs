@@ -1,0 +1,91 @@
+//! Random lists of calls on one table, accepted and refused.
+
+use super::damage::{any_bytes, changed_line, damaged_line};
+use super::program::closed_program;
+use super::random::Random;
+use crate::report::LONGEST_REPORT;
+
+/// One call on a table.
+#[derive(Clone, Debug, PartialEq, Eq)]
+pub enum Call {
+    /// Add this line.
+    Add(Vec<u8>),
+    /// Redeclare this parameter with this code.
+    Redeclare(u64, u64),
+    /// Take back the last term row.
+    TakeBack,
+    /// Infer with a buffer of this length, filled with this byte.
+    Infer(usize, u8),
+}
+
+/// Calls that build a program of up to so many rows, with other calls between, accepted and refused.
+pub fn call_list(random: &mut Random, rows: usize) -> Vec<Call> {
+    let program = closed_program(random, rows);
+    let mut calls = vec![];
+    let mut rows_added: Vec<Vec<u8>> = vec![];
+    for line in program.lines {
+        let line = line.into_bytes();
+        if random.one_in(6) {
+            calls.push(other_call(random, &line));
+        }
+        if random.one_in(12) {
+            calls.extend(taken_back_and_added(random, &rows_added));
+        }
+        if line.starts_with(b"E") {
+            rows_added.push(line.clone());
+        }
+        calls.push(Call::Add(line));
+    }
+    for (parameter, code) in program.redeclarations {
+        calls.push(Call::Redeclare(parameter, code));
+    }
+    calls.push(Call::Infer(LONGEST_REPORT, 0));
+    calls.extend(taken_back_and_added(random, &rows_added));
+    calls.push(redeclare(random));
+    calls.push(Call::Infer(random.between(LONGEST_REPORT, LONGEST_REPORT + 40), 255));
+    calls
+}
+
+/// A call that is no part of building the program; most are refused.
+fn other_call(random: &mut Random, line: &[u8]) -> Call {
+    match random.below(5) {
+        0 => Call::Add(any_bytes(random, 70)),
+        1 => Call::Add(damaged_line(random, line)),
+        2 => Call::Add(changed_line(random, line)),
+        3 => redeclare(random),
+        _ => infer(random),
+    }
+}
+
+/// Take-backs of the last rows, followed by adds of the same rows.
+fn taken_back_and_added(random: &mut Random, rows_added: &[Vec<u8>]) -> Vec<Call> {
+    let count = random.below(rows_added.len().min(5) + 1);
+    let again = &rows_added[rows_added.len() - count..];
+    let mut calls = vec![Call::TakeBack; count];
+    calls.push(infer(random));
+    calls.extend(again.iter().cloned().map(Call::Add));
+    calls
+}
+
+/// A redeclaration, mostly with numbers near the limits.
+fn redeclare(random: &mut Random) -> Call {
+    let parameter = match random.below(6) {
+        0 => random.number(),
+        _ => random.below(66) as u64,
+    };
+    let code = match random.below(6) {
+        0 => random.number(),
+        _ => random.below(73) as u64,
+    };
+    Call::Redeclare(parameter, code)
+}
+
+/// An inference with a buffer of any length, mostly long enough.
+fn infer(random: &mut Random) -> Call {
+    let length = match random.below(4) {
+        0 => random.below(LONGEST_REPORT),
+        1 => LONGEST_REPORT - 1,
+        _ => LONGEST_REPORT + random.below(3),
+    };
+    Call::Infer(length, random.number() as u8)
+}

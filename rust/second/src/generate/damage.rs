@@ -1,0 +1,109 @@
+//! Damaged lines and texts, near the limits of what is accepted.
+
+use super::goals::any_code;
+use super::random::Random;
+use super::text::code_text;
+use crate::operation::Operation;
+
+/// Fields that are refused or accepted at a limit, to put in the place of others.
+const FIELDS: [&str; 40] = [
+    "", "0", "1", "2", "7", "00", "01", "-1", "+1", " 1", "63", "64", "255", "256", "65535",
+    "65536", "4294967295", "4294967296", "18446744073709551616", "T", "P", "E", "e", "INT", "ANY",
+    "ARROW", "LAM", "APP", "OP", "VAR", "NUM", "ENC", "ADD", "PLAIN", "FHE", "rand", "g0", "g63",
+    "g64", "g00",
+];
+
+/// So many bytes or fewer, of any values.
+pub fn any_bytes(random: &mut Random, longest: usize) -> Vec<u8> {
+    let length = random.between(0, longest);
+    (0..length).map(|_| random.number() as u8).collect()
+}
+
+/// A line with one change to its bytes or its fields; some changes leave it well formed.
+pub fn damaged_line(random: &mut Random, line: &[u8]) -> Vec<u8> {
+    let mut damaged = line.to_vec();
+    let position = random.below(line.len());
+    match random.below(8) {
+        0 => damaged.insert(position, random.number() as u8),
+        1 if !damaged.is_empty() => {
+            damaged.remove(position);
+        }
+        2 if !damaged.is_empty() => damaged[position] = random.number() as u8,
+        3 => damaged.truncate(position),
+        4 => damaged.make_ascii_lowercase(),
+        5 => damaged.resize(random.between(line.len(), 80), b'0'),
+        _ => damaged = with_other_field(random, line),
+    }
+    damaged
+}
+
+/// The line with one field replaced, inserted or dropped.
+fn with_other_field(random: &mut Random, line: &[u8]) -> Vec<u8> {
+    let mut fields: Vec<&[u8]> = line.split(|&byte| byte == b',').collect();
+    let position = random.below(fields.len());
+    let field = FIELDS[random.below(FIELDS.len())].as_bytes();
+    match random.below(6) {
+        0 => fields.insert(position, field),
+        1 => {
+            fields.remove(position);
+        }
+        _ => fields[position] = field,
+    }
+    fields.join(&b',')
+}
+
+/// The line with one field replaced by another of its kind, so that it stays well formed.
+///
+/// The own number stays, as a wrong one hides all other refusals.
+pub fn changed_line(random: &mut Random, line: &[u8]) -> Vec<u8> {
+    let mut fields: Vec<Vec<u8>> = line.split(|&byte| byte == b',').map(<[u8]>::to_vec).collect();
+    let position = random.between(2, fields.len().saturating_sub(1));
+    if let Some(field) = fields.get_mut(position) {
+        *field = other_of_kind(random, field).into_bytes();
+    }
+    fields.join(&b',')
+}
+
+/// Another field of the same kind: a number, an operation, or otherwise a qualifier.
+fn other_of_kind(random: &mut Random, field: &[u8]) -> String {
+    let text = String::from_utf8_lossy(field);
+    if let Ok(number) = text.parse::<u64>() {
+        let near = number.saturating_add(random.below(4) as u64).saturating_sub(1);
+        return match random.below(3) {
+            0 => random.below(8).to_string(),
+            1 => random.below(70).to_string(),
+            _ => near.to_string(),
+        };
+    }
+    if Operation::of_word(field).is_some() {
+        return Operation::ALL[random.below(Operation::ALL.len())].word().to_string();
+    }
+    match text.as_ref() {
+        "INT" | "ANY" => (if random.one_in(2) { "INT" } else { "ANY" }).to_string(),
+        "LAM" | "APP" | "OP" | "VAR" | "NUM" | "ENC" | "ARROW" => text.to_string(),
+        _ => code_text(any_code(random)),
+    }
+}
+
+/// A text with one change to its lines or its end.
+pub fn damaged_text(random: &mut Random, text: &[u8]) -> Vec<u8> {
+    let mut lines: Vec<Vec<u8>> = text.split(|&byte| byte == b'\n').map(<[u8]>::to_vec).collect();
+    let (one, other) = (random.below(lines.len()), random.below(lines.len()));
+    match random.below(16) {
+        0 => lines.insert(one, vec![]),
+        1 => {
+            lines.remove(one);
+        }
+        2 => lines.insert(one, lines[other].clone()),
+        3 => lines.swap(one, other),
+        4 => lines.truncate(one),
+        5 => lines[one].push(b'\r'),
+        6 | 7 => lines[one] = damaged_line(random, &lines[one]),
+        _ => lines[one] = changed_line(random, &lines[one]),
+    }
+    let mut damaged = lines.join(&b'\n');
+    if random.one_in(4) {
+        damaged.pop();
+    }
+    damaged
+}

@@ -1,0 +1,345 @@
+//! Random closed programs of up to 256 rows, typable and not.
+
+use super::goals::{any_code, Aim, Departures, Goal, QualifierPlan};
+use super::order;
+use super::random::Random;
+use crate::operation::Operation;
+use crate::qualifier::{at_or_below, Qualifier};
+use crate::rows::{Parameter, QualifiedRow, Term, TypeRow};
+use crate::table::Table;
+
+/// A closed program as lines to add, with redeclarations to be made after them.
+pub struct Program {
+    /// The lines without line feeds; all are accepted by a fresh table.
+    pub lines: Vec<String>,
+    /// Parameters and codes for redeclare, all accepted after the lines.
+    pub redeclarations: Vec<(u64, u64)>,
+}
+
+impl Program {
+    /// The lines as one text, each ended by a line feed.
+    pub fn text(&self) -> Vec<u8> {
+        self.lines.iter().flat_map(|line| format!("{line}\n").into_bytes()).collect()
+    }
+
+    /// The table after the lines and the redeclarations.
+    pub fn table(&self) -> Table {
+        let mut table = Table::fresh();
+        for line in &self.lines {
+            table.add(line.as_bytes());
+        }
+        for &(parameter, code) in &self.redeclarations {
+            table.redeclare(parameter, code);
+        }
+        table
+    }
+}
+
+/// A random closed program with so many rows, or fewer where the parameters run out.
+pub fn closed_program(random: &mut Random, rows: usize) -> Program {
+    let rows = rows.clamp(1, Table::TERM_LIMIT);
+    let mut builder = Builder::new(random, rows);
+    builder.program(rows);
+    builder.unused_types();
+    let redeclarations = builder.redeclarations();
+    let Builder { types, params, terms, .. } = builder;
+    let terms = order::numbered(random, &terms);
+    Program { lines: order::lines(random, &types, &params, &terms), redeclarations }
+}
+
+/// The lists that grow while a program is built; every child stands below its parent.
+struct Builder<'a> {
+    random: &'a mut Random,
+    departures: Departures,
+    plan: QualifierPlan,
+    types: Vec<TypeRow>,
+    /// The shape that each used type row was declared for.
+    aims: Vec<Aim>,
+    params: Vec<Parameter>,
+    /// The goal that each parameter was declared for.
+    goals: Vec<Goal>,
+    terms: Vec<Term>,
+    /// The parameters whose LAM encloses the term under construction.
+    scope: Vec<u16>,
+}
+
+impl<'a> Builder<'a> {
+    fn new(random: &'a mut Random, rows: usize) -> Builder<'a> {
+        let classes = random.between(1, 1 + (rows / 4).min(5));
+        Builder {
+            departures: Departures::random(random, rows),
+            plan: QualifierPlan::random(random, classes),
+            random,
+            types: vec![],
+            aims: vec![],
+            params: vec![],
+            goals: vec![],
+            terms: vec![],
+            scope: vec![],
+        }
+    }
+
+    /// Builds a whole program.
+    fn program(&mut self, rows: usize) {
+        let outer = self.outer_goals(rows);
+        for goal in &outer {
+            let parameter = self.parameter(goal);
+            self.scope.push(parameter);
+        }
+        let body_rows = rows - outer.len();
+        let goal = self.plan.goal(self.random, if body_rows > 8 { 2 } else { 0 });
+        let mut row = self.term(goal, body_rows);
+        for parameter in std::mem::take(&mut self.scope) {
+            row = self.push(Term::Lambda { parameter, body: row });
+        }
+        // Functions of unused parameters make up for rows that the body left over.
+        while self.terms.len() < rows && self.params.len() < Table::PARAMETER_LIMIT {
+            let goal = self.plan.goal(self.random, 1);
+            let parameter = self.parameter(&goal);
+            row = self.push(Term::Lambda { parameter, body: row });
+        }
+    }
+
+    /// Goals of the outer parameters: an integer for each class, and some others.
+    fn outer_goals(&mut self, rows: usize) -> Vec<Goal> {
+        let mut goals: Vec<Goal> = (0..self.plan.classes()).map(Goal::int).collect();
+        for _ in 0..self.random.below(1 + (rows / 8).min(6)) {
+            let mut goal = self.plan.goal(self.random, 2);
+            // The qualifier of an applied parameter is free.
+            goal.class = self.random.below(self.plan.classes());
+            goals.push(goal);
+        }
+        goals.truncate(if self.random.one_in(4) { 0 } else { rows / 2 });
+        goals
+    }
+
+    /// Builds a term for a goal with at most so many rows, at least one.
+    fn term(&mut self, goal: Goal, rows: usize) -> u16 {
+        if !self.random.one_in(self.departures.wrong_shape) {
+            return self.fitting_term(goal, rows);
+        }
+        if rows >= 3 && self.random.one_in(2) {
+            return self.any_call(rows);
+        }
+        let other = self.plan.goal(self.random, 2);
+        self.fitting_term(other, rows)
+    }
+
+    /// Builds a term that is meant to reach the goal.
+    fn fitting_term(&mut self, goal: Goal, rows: usize) -> u16 {
+        match self.random.below(4) {
+            0 if self.may_bind(rows, 3 + goal.fewest_rows()) => self.immediate_call(goal, rows),
+            1 => match self.parameter_call(&goal, rows) {
+                Some(row) => row,
+                None => self.direct(&goal, rows),
+            },
+            2 if goal.aim != Aim::Int && self.fitting_parameter(&goal).is_some() => {
+                self.leaf(&goal)
+            }
+            _ => self.direct(&goal, rows),
+        }
+    }
+
+    /// Builds a term by the rule that its shape suggests.
+    fn direct(&mut self, goal: &Goal, rows: usize) -> u16 {
+        match &goal.aim {
+            Aim::Int => self.operation(goal, rows),
+            Aim::Arrow(argument, result) if self.may_bind(rows, 2) => {
+                self.function(argument, (**result).clone(), rows)
+            }
+            Aim::Arrow(..) => self.leaf(goal),
+        }
+    }
+
+    /// Tells whether a LAM can be made in so many rows.
+    fn may_bind(&self, rows: usize, fewest: usize) -> bool {
+        rows >= fewest && self.params.len() < Table::PARAMETER_LIMIT
+    }
+
+    /// A LAM with a new parameter.
+    fn function(&mut self, argument: &Goal, result: Goal, rows: usize) -> u16 {
+        let parameter = self.parameter(argument);
+        self.scope.push(parameter);
+        let body = self.term(result, rows - 1);
+        self.scope.pop();
+        self.push(Term::Lambda { parameter, body })
+    }
+
+    /// A LAM applied at once.
+    fn immediate_call(&mut self, goal: Goal, rows: usize) -> u16 {
+        let most = rows - 2 - goal.fewest_rows();
+        let mut argument_goal = self.plan.goal(self.random, 2);
+        if argument_goal.fewest_rows() > most {
+            argument_goal = Goal::int(argument_goal.class);
+        }
+        let argument_rows = self.random.between(argument_goal.fewest_rows(), most);
+        let function = self.function(&argument_goal, goal, rows - 1 - argument_rows);
+        let argument = self.term(argument_goal, argument_rows);
+        self.push(Term::Apply { function, argument })
+    }
+
+    /// A parameter in scope applied to an argument, if one gives the goal.
+    fn parameter_call(&mut self, goal: &Goal, rows: usize) -> Option<u16> {
+        let gives = |parameter: u16| match &self.goals[usize::from(parameter)].aim {
+            Aim::Arrow(argument, result) if **result == *goal => {
+                (argument.fewest_rows() + 2 <= rows).then(|| (parameter, (**argument).clone()))
+            }
+            _ => None,
+        };
+        let candidates: Vec<_> =
+            self.scope.iter().filter_map(|&parameter| gives(parameter)).collect();
+        let (parameter, argument_goal) = self.random.pick(&candidates)?.clone();
+        let function = self.push(Term::Variable { parameter });
+        let argument = self.term(argument_goal, rows - 2);
+        Some(self.push(Term::Apply { function, argument }))
+    }
+
+    /// Any term applied to any other.
+    fn any_call(&mut self, rows: usize) -> u16 {
+        let (one, other) = (self.plan.goal(self.random, 2), self.plan.goal(self.random, 2));
+        let function_rows = self.random.between(1, rows - 2);
+        let function = self.term(one, function_rows);
+        let argument = self.term(other, rows - 1 - function_rows);
+        self.push(Term::Apply { function, argument })
+    }
+
+    /// An operation on two terms, or a leaf where none fits.
+    fn operation(&mut self, goal: &Goal, rows: usize) -> u16 {
+        let supported = self.supported_operations(goal);
+        let Some(&(operation, class)) = self.random.pick(&supported).filter(|_| rows >= 3) else {
+            return self.leaf(goal);
+        };
+        let left_rows = self.random.between(1, rows - 2);
+        let left = self.term(Goal::int(class), left_rows);
+        let right = self.term(Goal::int(class), rows - 1 - left_rows);
+        self.push(Term::Operate { operation, left, right })
+    }
+
+    /// The operations that give the goal, each with a class for its operands.
+    fn supported_operations(&mut self, goal: &Goal) -> Vec<(Operation, usize)> {
+        let departs = self.random.one_in(self.departures.wrong_operation);
+        let supports = |operation: Operation, class: usize| match self.plan.constant(class) {
+            Some(constant) => departs || at_or_below(constant, operation.highest_scheme()),
+            None => true,
+        };
+        let mut found = vec![];
+        for operation in Operation::ALL {
+            for class in 0..self.plan.classes() {
+                let result = if operation.keeps_qualifier() { class } else { 0 };
+                if result == goal.class && supports(operation, class) {
+                    found.push((operation, class));
+                }
+            }
+        }
+        found
+    }
+
+    /// A row without children: a parameter in scope, or a constant.
+    fn leaf(&mut self, goal: &Goal) -> u16 {
+        let variable = self.fitting_parameter(goal);
+        let constant = self.plan.constant(goal.class);
+        let departs = self.random.one_in(self.departures.wrong_qualifier);
+        let value = (self.random.number() >> self.random.between(32, 63)) as u32;
+        let scheme = match (constant, departs) {
+            (Some(constant), false) => constant,
+            _ => Qualifier::ALL[self.random.below(Qualifier::ALL.len())],
+        };
+        // Without a fixed qualifier only a parameter keeps the class free.
+        let prefers_variable = constant.is_none() || self.random.one_in(2);
+        self.push(match (variable, scheme) {
+            (Some(parameter), _) if prefers_variable && !departs => Term::Variable { parameter },
+            (_, Qualifier::Plain) => Term::Number { value },
+            _ => Term::Encrypted { scheme, value },
+        })
+    }
+
+    /// A parameter in scope that was declared for this goal.
+    fn fitting_parameter(&mut self, goal: &Goal) -> Option<u16> {
+        let fits = |&parameter: &u16| self.goals[usize::from(parameter)] == *goal;
+        let candidates: Vec<u16> = self.scope.iter().copied().filter(fits).collect();
+        self.random.pick(&candidates).copied()
+    }
+
+    /// Declares a parameter for a goal.
+    fn parameter(&mut self, goal: &Goal) -> u16 {
+        let type_row = self.type_row(&goal.aim);
+        let qualifier = self.qualifier(goal.class);
+        self.params.push(Parameter { qualifier, type_row });
+        self.goals.push(goal.clone());
+        (self.params.len() - 1) as u16
+    }
+
+    /// A declared qualifier for a class.
+    fn qualifier(&mut self, class: usize) -> u8 {
+        match self.random.one_in(self.departures.wrong_qualifier) {
+            true => any_code(self.random),
+            false => self.plan.code(self.random, class),
+        }
+    }
+
+    /// A type row for a shape: an earlier one, an unknown, or the shape itself.
+    fn type_row(&mut self, aim: &Aim) -> u16 {
+        let fits = |row: &usize| self.aims[*row] == *aim;
+        let earlier: Vec<usize> = (0..self.types.len()).filter(fits).collect();
+        // An arrow of depth two declares up to three rows after this test.
+        let full = self.types.len() + 4 > Table::TYPE_LIMIT;
+        if let Some(&row) = self.random.pick(&earlier).filter(|_| full || self.random.one_in(2)) {
+            return row as u16;
+        }
+        if full || self.types.len() > 1 && self.random.one_in(4 * self.departures.wrong_shape) {
+            // A row of another shape: there is no place for a fitting one, or a departure.
+            return self.random.below(self.types.len()) as u16;
+        }
+        let row = match aim {
+            _ if self.random.one_in(2) => TypeRow::Any,
+            Aim::Int => TypeRow::Int,
+            Aim::Arrow(argument, result) => TypeRow::Arrow {
+                argument: self.qualified_row(argument),
+                result: self.qualified_row(result),
+            },
+        };
+        self.types.push(row);
+        self.aims.push(aim.clone());
+        (self.types.len() - 1) as u16
+    }
+
+    /// A declared qualifier and a type row for a goal.
+    fn qualified_row(&mut self, goal: &Goal) -> QualifiedRow {
+        QualifiedRow { type_row: self.type_row(&goal.aim), qualifier: self.qualifier(goal.class) }
+    }
+
+    /// Appends type rows that nothing uses; their variables still stand in T lines.
+    fn unused_types(&mut self) {
+        let count = if self.random.one_in(3) { self.random.below(4) } else { 0 };
+        for _ in 0..count {
+            if self.types.is_empty() || self.types.len() >= Table::TYPE_LIMIT {
+                return;
+            }
+            let mut part = || QualifiedRow {
+                qualifier: any_code(self.random),
+                type_row: self.random.below(self.types.len()) as u16,
+            };
+            let row = TypeRow::Arrow { argument: part(), result: part() };
+            self.types.push(row);
+        }
+    }
+
+    /// Moves the qualifiers of some parameters from their lines to redeclarations.
+    fn redeclarations(&mut self) -> Vec<(u64, u64)> {
+        let mut redeclarations = vec![];
+        let often = if self.random.one_in(3) { 2 } else { 0 };
+        for (number, parameter) in self.params.iter_mut().enumerate() {
+            if self.random.one_in(often) {
+                redeclarations.push((number as u64, u64::from(parameter.qualifier)));
+                parameter.qualifier = any_code(self.random);
+            }
+        }
+        redeclarations
+    }
+
+    /// Appends a term row.
+    fn push(&mut self, term: Term) -> u16 {
+        self.terms.push(term);
+        (self.terms.len() - 1) as u16
+    }
+}

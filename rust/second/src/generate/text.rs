@@ -1,0 +1,43 @@
+//! The lines that declare given rows.
+
+use crate::qualifier::{Qualifier, FIRST_VARIABLE_CODE};
+use crate::rows::{Parameter, QualifiedRow, Term, TypeRow};
+
+/// The text of a declared qualifier with this code.
+pub fn code_text(code: u8) -> String {
+    match Qualifier::ALL.get(usize::from(code)) {
+        Some(qualifier) => qualifier.word().to_string(),
+        None => format!("g{}", code - FIRST_VARIABLE_CODE),
+    }
+}
+
+/// The line of a type row.
+pub fn type_line(own: usize, row: &TypeRow) -> String {
+    let part = |part: QualifiedRow| format!("{},{}", code_text(part.qualifier), part.type_row);
+    match *row {
+        TypeRow::Int => format!("T,{own},INT"),
+        TypeRow::Any => format!("T,{own},ANY"),
+        TypeRow::Arrow { argument, result } => {
+            format!("T,{own},ARROW,{},{}", part(argument), part(result))
+        }
+    }
+}
+
+/// The line of a parameter.
+pub fn parameter_line(own: usize, parameter: &Parameter) -> String {
+    format!("P,{own},{},{}", code_text(parameter.qualifier), parameter.type_row)
+}
+
+/// The line of a term row.
+pub fn term_line(own: usize, term: &Term) -> String {
+    match *term {
+        Term::Lambda { parameter, body } => format!("E,{own},LAM,{parameter},{body}"),
+        Term::Apply { function, argument } => format!("E,{own},APP,{function},{argument}"),
+        Term::Operate { operation, left, right } => {
+            format!("E,{own},OP,{},{left},{right}", operation.word())
+        }
+        Term::Variable { parameter } => format!("E,{own},VAR,{parameter}"),
+        Term::Number { value } => format!("E,{own},NUM,{value}"),
+        Term::Encrypted { scheme, value } => format!("E,{own},ENC,{},{value}", scheme.word()),
+    }
+}

@@ -1,0 +1,22 @@
+//! A second, independent solver for scheme inference over a term table.
+//!
+//! It is written for clarity and serves as the reference in comparison tests.
+
+#![forbid(unsafe_code)]
+#![warn(missing_docs)]
+
+pub mod classes;
+pub mod generate;
+pub mod line;
+pub mod operation;
+pub mod place;
+pub mod qualifier;
+pub mod report;
+pub mod rows;
+pub mod solution;
+pub mod table;
+pub mod typing;
+
+pub use place::{entry, place};
+pub use rows::Entry;
+pub use table::{Answer, Table};

@@ -1,0 +1,93 @@
+//! Reads one line into the entry that it declares.
+
+use crate::operation::Operation;
+use crate::qualifier::{Qualifier, FIRST_VARIABLE_CODE, NAMED_VARIABLES};
+use crate::rows::{Entry, QualifiedRow, Term, TypeRow};
+
+/// The greatest length of a line, without its line feed.
+pub const LONGEST_LINE: usize = 64;
+
+/// Reads a line given without its line feed; `None` if it has none of the forms.
+pub fn read(line: &[u8]) -> Option<Entry> {
+    if line.len() > LONGEST_LINE {
+        return None;
+    }
+    let fields: Vec<&[u8]> = line.split(|&byte| byte == b',').collect();
+    match *fields.as_slice() {
+        [b"T", own, ref rest @ ..] => Some(Entry::T(small(own)?, type_row(rest)?)),
+        [b"P", own, qualifier, row] => Some(Entry::P(small(own)?, qualified_row(qualifier, row)?)),
+        [b"E", own, ref rest @ ..] => Some(Entry::E(small(own)?, term(rest)?)),
+        _ => None,
+    }
+}
+
+/// Reads the fields of a type row after its own number.
+fn type_row(fields: &[&[u8]]) -> Option<TypeRow> {
+    match *fields {
+        [b"INT"] => Some(TypeRow::Int),
+        [b"ANY"] => Some(TypeRow::Any),
+        [b"ARROW", from, argument, to, result] => Some(TypeRow::Arrow {
+            argument: qualified_row(from, argument)?,
+            result: qualified_row(to, result)?,
+        }),
+        _ => None,
+    }
+}
+
+/// Reads the fields of a term row after its own number.
+fn term(fields: &[&[u8]]) -> Option<Term> {
+    match *fields {
+        [b"LAM", parameter, body] => {
+            Some(Term::Lambda { parameter: small(parameter)?, body: small(body)? })
+        }
+        [b"APP", function, argument] => {
+            Some(Term::Apply { function: small(function)?, argument: small(argument)? })
+        }
+        [b"OP", operation, left, right] => Some(Term::Operate {
+            operation: Operation::of_word(operation)?,
+            left: small(left)?,
+            right: small(right)?,
+        }),
+        [b"VAR", parameter] => Some(Term::Variable { parameter: small(parameter)? }),
+        [b"NUM", value] => Some(Term::Number { value: number(value)? }),
+        [b"ENC", scheme, value] => {
+            Some(Term::Encrypted { scheme: self::scheme(scheme)?, value: number(value)? })
+        }
+        _ => None,
+    }
+}
+
+/// Reads a qualifier and a type row.
+fn qualified_row(qualifier: &[u8], row: &[u8]) -> Option<QualifiedRow> {
+    Some(QualifiedRow { qualifier: qualifier_code(qualifier)?, type_row: small(row)? })
+}
+
+/// Reads a qualifier word, or a named variable `g0` to `g63`, into its code.
+fn qualifier_code(field: &[u8]) -> Option<u8> {
+    if let Some(qualifier) = Qualifier::of_word(field) {
+        return Some(qualifier.code());
+    }
+    let variable = u8::try_from(number(field.strip_prefix(b"g")?)?).ok()?;
+    (variable < NAMED_VARIABLES).then_some(FIRST_VARIABLE_CODE + variable)
+}
+
+/// Reads one of the six schemes; PLAIN is not a scheme.
+fn scheme(field: &[u8]) -> Option<Qualifier> {
+    Qualifier::of_word(field).filter(|&qualifier| qualifier != Qualifier::Plain)
+}
+
+/// Reads a number from 0 to 65535.
+fn small(field: &[u8]) -> Option<u16> {
+    u16::try_from(number(field)?).ok()
+}
+
+/// Reads a decimal number from 0 to 4294967295 without leading zeros.
+fn number(field: &[u8]) -> Option<u32> {
+    if field.is_empty() || (field.len() > 1 && field[0] == b'0') {
+        return None;
+    }
+    field.iter().try_fold(0u32, |value, &byte| {
+        let digit = byte.is_ascii_digit().then(|| u32::from(byte - b'0'))?;
+        value.checked_mul(10)?.checked_add(digit)
+    })
+}

@@ -1,0 +1,61 @@
+//! The five operations, the highest scheme of each, and the qualifier of its result.
+
+use crate::qualifier::Qualifier;
+
+/// An operation; its code is its position in this list.
+#[derive(Clone, Copy, Debug, PartialEq, Eq, Hash)]
+pub enum Operation {
+    /// Addition.
+    Add,
+    /// Multiplication.
+    Mul,
+    /// Equality.
+    Eq,
+    /// Less than.
+    Lt,
+    /// Greater than.
+    Gt,
+}
+
+impl Operation {
+    /// All operations in the order of their codes.
+    pub const ALL: [Operation; 5] =
+        [Operation::Add, Operation::Mul, Operation::Eq, Operation::Lt, Operation::Gt];
+
+    /// The code of this operation, 0 to 4.
+    pub fn code(self) -> u8 {
+        self as u8
+    }
+
+    /// The word that stands for this operation in a line.
+    pub fn word(self) -> &'static str {
+        match self {
+            Operation::Add => "ADD",
+            Operation::Mul => "MUL",
+            Operation::Eq => "EQ",
+            Operation::Lt => "LT",
+            Operation::Gt => "GT",
+        }
+    }
+
+    /// The operation that this word stands for, if any.
+    pub fn of_word(word: &[u8]) -> Option<Operation> {
+        let mut all = Self::ALL.into_iter();
+        all.find(|operation| operation.word().as_bytes() == word)
+    }
+
+    /// The highest scheme that supports this operation.
+    pub fn highest_scheme(self) -> Qualifier {
+        match self {
+            Operation::Add => Qualifier::Ah,
+            Operation::Mul => Qualifier::Mh,
+            Operation::Eq => Qualifier::Det,
+            Operation::Lt | Operation::Gt => Qualifier::Op,
+        }
+    }
+
+    /// Tells whether the result has the operands' qualifier; otherwise it is PLAIN.
+    pub fn keeps_qualifier(self) -> bool {
+        matches!(self, Operation::Add | Operation::Mul)
+    }
+}

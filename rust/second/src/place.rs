@@ -1,0 +1,53 @@
+//! The program `place` and the loader's C entry, each on a whole text.
+
+use crate::report::LONGEST_REPORT;
+use crate::table::{Answer, Table};
+
+/// What `place` prints when its standard input is this text.
+pub fn place(text: &[u8]) -> Vec<u8> {
+    let table = match filled(text) {
+        Ok(table) => table,
+        Err((number, line)) => return format!("X,{number},{line}\n").into_bytes(),
+    };
+    let mut report = vec![0; LONGEST_REPORT];
+    let Answer { number, row, length } = table.infer(&mut report);
+    if number != 0 {
+        return format!("NO,{number},{row}\n").into_bytes();
+    }
+    report.truncate(length as usize);
+    report
+}
+
+/// What the C entry returns; the buffer is changed only if the program is accepted.
+pub fn entry(text: &[u8], buffer: &mut [u8]) -> u32 {
+    if buffer.len() < LONGEST_REPORT {
+        return 11_000;
+    }
+    let table = match filled(text) {
+        Ok(table) => table,
+        Err((number, line)) => return number * 1_000 + line,
+    };
+    let Answer { number, row, length } = table.infer(buffer);
+    if number != 0 {
+        return number * 1_000 + row;
+    }
+    100_000 + length
+}
+
+/// The table after all lines are added, or the first refusal's number and line from 1.
+fn filled(text: &[u8]) -> Result<Table, (u32, u32)> {
+    let mut table = Table::fresh();
+    for (number, line) in (1..).zip(lines(text)) {
+        let refusal = table.add(line);
+        if refusal != 0 {
+            return Err((refusal, number));
+        }
+    }
+    Ok(table)
+}
+
+/// The lines of a text; what follows the last line feed counts if it is not empty.
+fn lines(text: &[u8]) -> impl Iterator<Item = &[u8]> {
+    let with_line_feeds = text.split_inclusive(|&byte| byte == b'\n');
+    with_line_feeds.map(|line| line.strip_suffix(b"\n").unwrap_or(line))
+}

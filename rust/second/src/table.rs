@@ -1,0 +1,194 @@
+//! The table of three lists and its four calls.
+
+use crate::line;
+use crate::qualifier::GREATEST_CODE;
+use crate::report;
+use crate::rows::{Entry, Parameter, Term, TypeRow};
+use crate::typing;
+
+/// The three lists. Entries come in only by [`Table::add`], so every reference is valid.
+#[derive(Clone, Debug, Default, PartialEq, Eq)]
+pub struct Table {
+    /// The type rows.
+    pub types: Vec<TypeRow>,
+    /// The parameters with their present qualifiers.
+    pub params: Vec<Parameter>,
+    /// The term rows.
+    pub terms: Vec<Term>,
+}
+
+/// What an inference returns.
+#[derive(Clone, Copy, Debug, PartialEq, Eq)]
+pub struct Answer {
+    /// 0, or the refusal's number.
+    pub number: u32,
+    /// The row that 21, 22 or 23 names, otherwise 0.
+    pub row: u32,
+    /// The report's length in bytes, 0 for a refusal.
+    pub length: u32,
+}
+
+impl Table {
+    /// The most type rows that a table holds.
+    pub const TYPE_LIMIT: usize = 64;
+    /// The most parameters that a table holds.
+    pub const PARAMETER_LIMIT: usize = 64;
+    /// The most term rows that a table holds.
+    pub const TERM_LIMIT: usize = 256;
+
+    /// The table whose lists are empty.
+    pub fn fresh() -> Table {
+        Table::default()
+    }
+
+    /// Appends the entry that a line declares; returns 0 or the refusal's number.
+    pub fn add(&mut self, line: &[u8]) -> u32 {
+        let Some(entry) = line::read(line) else {
+            return 1;
+        };
+        let refusal = self.refusal(&entry);
+        if refusal == 0 {
+            match entry {
+                Entry::T(_, row) => self.types.push(row),
+                Entry::P(_, parameter) => self.params.push(parameter),
+                Entry::E(_, term) => self.terms.push(term),
+            }
+        }
+        refusal
+    }
+
+    /// Replaces a parameter's qualifier; returns 0 or the refusal's number.
+    pub fn redeclare(&mut self, parameter: u64, code: u64) -> u32 {
+        let position = usize::try_from(parameter).ok();
+        let Some(declared) = position.and_then(|position| self.params.get_mut(position)) else {
+            return 5;
+        };
+        match u8::try_from(code) {
+            Ok(code) if code <= GREATEST_CODE => {
+                declared.qualifier = code;
+                0
+            }
+            _ => 12,
+        }
+    }
+
+    /// Drops the last term row; returns 0 or the refusal's number.
+    pub fn take_back(&mut self) -> u32 {
+        match self.terms.pop() {
+            Some(_) => 0,
+            None => 9,
+        }
+    }
+
+    /// Writes the report into the buffer if the program has a typing; refusals leave it unchanged.
+    pub fn infer(&self, buffer: &mut [u8]) -> Answer {
+        if buffer.len() < report::LONGEST_REPORT {
+            return Answer { number: 11, row: 0, length: 0 };
+        }
+        if !self.closed() {
+            return Answer { number: 10, row: 0, length: 0 };
+        }
+        match typing::judge(self) {
+            Err(refusal) => Answer { number: refusal.number, row: refusal.row, length: 0 },
+            Ok(judgement) => {
+                let report = report::bytes(&judgement);
+                buffer[..report.len()].copy_from_slice(&report);
+                Answer { number: 0, row: 0, length: report.len() as u32 }
+            }
+        }
+    }
+
+    /// Tells whether the program is closed.
+    pub fn closed(&self) -> bool {
+        let Some(last) = self.terms.len().checked_sub(1) else {
+            return false;
+        };
+        let parents = self.parents();
+        let bound = |parameter| self.is_bound(parameter as u16);
+        let inside = |row: usize| match self.terms[row] {
+            Term::Variable { parameter } => self.stands_inside(row, parameter, &parents),
+            _ => true,
+        };
+        parents[..last].iter().all(Option::is_some)
+            && (0..self.params.len()).all(bound)
+            && (0..self.terms.len()).all(inside)
+    }
+
+    /// The first of the refusals 2 to 8 that applies to the entry, or 0.
+    fn refusal(&self, entry: &Entry) -> u32 {
+        let (next, limit) = self.next_and_limit(entry);
+        if usize::from(entry.own_number()) != next {
+            return 2;
+        }
+        if next >= limit {
+            return 3;
+        }
+        let declared_type = |&row: &u16| usize::from(row) < self.types.len();
+        if !entry.type_rows().iter().all(declared_type) {
+            return 4;
+        }
+        match entry {
+            Entry::E(_, term) => self.term_refusal(term),
+            _ => 0,
+        }
+    }
+
+    /// The first of the refusals 5 to 8 that applies to a term that would be the next row, or 0.
+    fn term_refusal(&self, term: &Term) -> u32 {
+        let undeclared = |parameter: u16| usize::from(parameter) >= self.params.len();
+        let not_below = |child: u16| usize::from(child) >= self.terms.len();
+        if term.parameter().is_some_and(undeclared) {
+            5
+        } else if term.children().any(not_below) {
+            6
+        } else if term.has_equal_children() || term.children().any(|child| self.is_used(child)) {
+            7
+        } else if term.bound_parameter().is_some_and(|parameter| self.is_bound(parameter)) {
+            8
+        } else {
+            0
+        }
+    }
+
+    /// The next own number of the entry's list, and that list's limit.
+    fn next_and_limit(&self, entry: &Entry) -> (usize, usize) {
+        match entry {
+            Entry::T(..) => (self.types.len(), Self::TYPE_LIMIT),
+            Entry::P(..) => (self.params.len(), Self::PARAMETER_LIMIT),
+            Entry::E(..) => (self.terms.len(), Self::TERM_LIMIT),
+        }
+    }
+
+    /// Tells whether a standing row names this row as a child.
+    fn is_used(&self, row: u16) -> bool {
+        self.terms.iter().any(|term| term.children().any(|child| child == row))
+    }
+
+    /// Tells whether a standing LAM binds this parameter.
+    fn is_bound(&self, parameter: u16) -> bool {
+        self.terms.iter().any(|term| term.bound_parameter() == Some(parameter))
+    }
+
+    /// For each row, the row that names it as a child.
+    fn parents(&self) -> Vec<Option<usize>> {
+        let mut parents = vec![None; self.terms.len()];
+        for (row, term) in self.terms.iter().enumerate() {
+            for child in term.children() {
+                parents[usize::from(child)] = Some(row);
+            }
+        }
+        parents
+    }
+
+    /// Tells whether a row stands in the body of the LAM that binds the parameter.
+    fn stands_inside(&self, row: usize, parameter: u16, parents: &[Option<usize>]) -> bool {
+        let mut above = parents[row];
+        while let Some(ancestor) = above {
+            if self.terms[ancestor].bound_parameter() == Some(parameter) {
+                return true;
+            }
+            above = parents[ancestor];
+        }
+        false
+    }
+}

@@ -1,0 +1,212 @@
+//! Compares the solver with an exhaustive search for typings, on tiny tables.
+
+mod search;
+mod tables;
+
+use search::{search, Found, Rules};
+use second::generate::Random;
+use second::typing::{judge, Shape};
+use second::Table;
+use tables::{tiny_table, Limits};
+
+/// How many tables of each kind a test met.
+#[derive(Debug, Default)]
+struct Tally {
+    accepted: usize,
+    refused: [usize; 3],
+}
+
+impl Tally {
+    /// Counts a table by the refusal's number, 0 for none.
+    fn count(&mut self, number: u32) {
+        match number {
+            0 => self.accepted += 1,
+            _ => self.refused[number as usize - 21] += 1,
+        }
+    }
+}
+
+/// The refusal's number and row, 0 and the number of rows if there is none.
+fn verdict(table: &Table) -> (u32, usize) {
+    match judge(table) {
+        Ok(_) => (0, table.terms.len()),
+        Err(refusal) => (refusal.number, refusal.row as usize),
+    }
+}
+
+/// The same verdict from searches that respect more and more of the rules.
+fn searched_verdict(rows: usize, all: usize, without_bounds: usize, shapes: usize) -> (u32, usize) {
+    let number = match all {
+        _ if all == rows => 0,
+        _ if shapes == all => 21,
+        _ if without_bounds == all => 22,
+        _ => 23,
+    };
+    (number, all)
+}
+
+/// Asserts that the solver's words are the greatest found, and that together they are a typing.
+fn assert_greatest_words(table: &Table, variables: usize, found: &Found) {
+    let judgement = judge(table).unwrap();
+    for &(variable, word) in &judgement.variables {
+        assert_eq!(found.greatest(usize::from(variable)), word.code(), "in {table:?}");
+    }
+    let slots = judgement.params.iter().chain(&judgement.terms);
+    for (number, slot) in slots.enumerate() {
+        assert_eq!(found.greatest(variables + number), slot.word.code(), "in {table:?}");
+    }
+    assert!(found.has_reported, "the words are no typing in {table:?}");
+}
+
+/// Asserts that the solver's shapes are those found.
+fn assert_shapes(table: &Table, found: &Found) {
+    let judgement = judge(table).unwrap();
+    let slots = judgement.params.iter().chain(&judgement.terms);
+    for (slot, &seen) in slots.zip(&found.shapes) {
+        let expected = match seen {
+            (true, true) => Shape::Any,
+            (true, false) => Shape::Int,
+            _ => Shape::Arrow,
+        };
+        assert_eq!(slot.shape, expected, "in {table:?}");
+    }
+}
+
+/// Compares random tables without ANY rows, for which the search is complete.
+fn compare_complete(seed: u64, tables: usize, limits: &Limits) -> Tally {
+    let mut random = Random::seeded(seed);
+    let mut tally = Tally::default();
+    for _ in 0..tables {
+        let table = tiny_table(&mut random, limits);
+        let all = search(&table, limits.variables, Rules::All, 0);
+        let without_bounds = search(&table, limits.variables, Rules::WithoutBounds, 0).most_rows;
+        let shapes = rows_with_shapes(&table, 0);
+        let expected = searched_verdict(table.terms.len(), all.most_rows, without_bounds, shapes);
+        assert_eq!(verdict(&table), expected, "in {table:?}");
+        tally.count(expected.0);
+        if expected.0 == 0 {
+            assert_greatest_words(&table, limits.variables, &all);
+            assert_shapes(&table, &all);
+        }
+    }
+    tally
+}
+
+#[test]
+fn tables_without_unknown_types_agree() {
+    let limits = Limits { unknowns: 0, arrows: 9, constants: 9, variables: 3, rows: 8 };
+    let tally = compare_complete(1, 1000, &limits);
+    assert!(tally.accepted > 200 && tally.refused.iter().all(|&count| count > 40), "{tally:?}");
+}
+
+#[test]
+fn tables_without_arrows_agree() {
+    let limits = Limits { unknowns: 0, arrows: 0, constants: 1, variables: 3, rows: 14 };
+    let tally = compare_complete(8, 500, &limits);
+    assert!(tally.accepted > 100 && tally.refused[1] > 40 && tally.refused[2] > 40, "{tally:?}");
+}
+
+/// Compares the shapes of random tables; types nest at most as deep as there are arrows.
+fn compare_shapes(seed: u64, limits: &Limits) {
+    let mut random = Random::seeded(seed);
+    let (mut tally, mut free) = (Tally::default(), 0);
+    for _ in 0..400 {
+        let table = tiny_table(&mut random, limits);
+        // One level more than needed shows that a shape is free.
+        let found = search(&table, 0, Rules::WithoutQualifiers, limits.arrows + 1);
+        let (number, row) = verdict(&table);
+        tally.count(number);
+        match number {
+            0 => assert_shapes(&table, &found),
+            21 => assert_eq!(found.most_rows, row, "in {table:?}"),
+            _ => assert!(found.most_rows > row, "in {table:?}"),
+        }
+        if let Ok(judgement) = judge(&table) {
+            free += usize::from(judgement.terms.iter().any(|slot| slot.shape == Shape::Any));
+        }
+    }
+    assert!(tally.accepted > 50 && tally.refused[0] > 20 && free > 20, "{tally:?} {free}");
+}
+
+#[test]
+fn shapes_of_tables_with_one_unknown_type_agree() {
+    compare_shapes(6, &Limits { unknowns: 1, arrows: 3, constants: 9, variables: 2, rows: 7 });
+}
+
+#[test]
+fn shapes_of_tables_with_three_unknown_types_agree() {
+    compare_shapes(7, &Limits { unknowns: 3, arrows: 2, constants: 9, variables: 2, rows: 7 });
+}
+
+/// The rows that have a typing without qualifiers, with types up to a depth.
+fn rows_with_shapes(table: &Table, depth: usize) -> usize {
+    search(table, 0, Rules::WithoutQualifiers, depth).most_rows
+}
+
+/// Compares a table of at most three arrows; gives its number if the depth suffices for it.
+fn compare(table: &Table, variables: usize, depth: usize) -> Option<u32> {
+    // Depth 3 suffices for three arrows; a lower depth that reaches as far suffices too.
+    let shapes = rows_with_shapes(table, 3);
+    let all = search(table, variables, Rules::All, depth);
+    if rows_with_shapes(table, depth) != shapes {
+        // A search that misses types still never reaches further than the solver.
+        assert!(all.most_rows <= verdict(table).1, "in {table:?}");
+        return None;
+    }
+    let without_bounds = search(table, variables, Rules::WithoutBounds, depth).most_rows;
+    let expected = searched_verdict(table.terms.len(), all.most_rows, without_bounds, shapes);
+    assert_eq!(verdict(table), expected, "in {table:?}");
+    if expected.0 == 0 {
+        assert_greatest_words(table, variables, &all);
+    }
+    Some(expected.0)
+}
+
+/// Compares so many random tables with types of depth 1.
+fn compare_tables(seed: u64, tables: usize, limits: &Limits) -> Tally {
+    let mut random = Random::seeded(seed);
+    let mut tally = Tally::default();
+    for _ in 0..tables {
+        let table = tiny_table(&mut random, limits);
+        if let Some(number) = compare(&table, limits.variables, 1) {
+            tally.count(number);
+        }
+    }
+    tally
+}
+
+#[test]
+fn tables_with_one_unknown_type_agree() {
+    let tally = compare_tables(
+        3,
+        300,
+        &Limits { unknowns: 1, arrows: 3, constants: 9, variables: 2, rows: 7 },
+    );
+    assert!(tally.accepted > 50 && tally.refused.iter().all(|&count| count > 10), "{tally:?}");
+}
+
+#[test]
+fn tables_with_two_unknown_types_agree() {
+    let tally = compare_tables(
+        4,
+        40,
+        &Limits { unknowns: 2, arrows: 3, constants: 9, variables: 1, rows: 7 },
+    );
+    assert!(tally.accepted > 10 && tally.refused.iter().sum::<usize>() > 10, "{tally:?}");
+}
+
+#[test]
+fn tables_with_a_deep_unknown_type_agree() {
+    let limits = Limits { unknowns: 1, arrows: 3, constants: 9, variables: 0, rows: 7 };
+    let mut random = Random::seeded(5);
+    let mut compared = 0;
+    while compared < 3 {
+        let table = tiny_table(&mut random, &limits);
+        // Only tables that need depth 2 are worth the search.
+        let shapes = rows_with_shapes(&table, 3);
+        if rows_with_shapes(&table, 1) < shapes && rows_with_shapes(&table, 2) == shapes {
+            assert!(compare(&table, 0, 2).is_some());
+            compared += 1;
+        }
+    }
+}

@@ -1,0 +1,236 @@
+//! The generator gives a good mix of inputs, and random calls keep the table's promises.
+
+use second::generate::{
+    any_bytes, call_list, changed_line, closed_program, damaged_line, damaged_text, Call, Program,
+    Random,
+};
+use second::line::read;
+use second::rows::TypeRow;
+use second::typing::{judge, Shape};
+use second::{entry, place, Answer, Table};
+use std::collections::BTreeMap;
+
+/// So many programs of random sizes.
+fn programs(seed: u64, count: usize) -> Vec<Program> {
+    let mut random = Random::seeded(seed);
+    let size = |random: &mut Random| match random.below(3) {
+        0 => random.between(1, 12),
+        1 => random.between(1, 60),
+        _ => random.between(1, 256),
+    };
+    (0..count)
+        .map(|_| {
+            let rows = size(&mut random);
+            closed_program(&mut random, rows)
+        })
+        .collect()
+}
+
+/// The number of an inference's refusal, 0 if it is accepted.
+fn number(table: &Table) -> u32 {
+    table.infer(&mut [0; 6280]).number
+}
+
+#[test]
+fn the_same_seed_gives_the_same_programs() {
+    let text = |seed| programs(seed, 20).iter().flat_map(Program::text).collect::<Vec<u8>>();
+    assert_eq!(text(11), text(11));
+    assert_ne!(text(11), text(12));
+}
+
+#[test]
+fn random_numbers_keep_their_limits() {
+    for seed in 0..50 {
+        let mut random = Random::seeded(seed);
+        assert_eq!(random.below(0), 0);
+        assert!(!random.one_in(0));
+        assert!(random.one_in(1));
+        assert_eq!(random.pick::<u8>(&[]), None);
+        let mut seen = [false; 5];
+        for _ in 0..200 {
+            assert!((3..=7).contains(&random.between(3, 7)));
+            seen[random.below(5)] = true;
+        }
+        assert_eq!(seen, [true; 5]);
+    }
+}
+
+#[test]
+fn all_lines_are_accepted_and_all_programs_closed() {
+    for program in programs(21, 600) {
+        let mut table = Table::fresh();
+        for line in &program.lines {
+            assert_eq!(table.add(line.as_bytes()), 0, "for the line {line}");
+        }
+        assert!(table.closed());
+        for &(parameter, code) in &program.redeclarations {
+            assert_eq!(table.redeclare(parameter, code), 0);
+        }
+        assert_eq!(table, program.table());
+    }
+}
+
+#[test]
+fn all_verdicts_occur_often() {
+    let mut counts = BTreeMap::new();
+    for program in programs(22, 2000) {
+        *counts.entry(number(&program.table())).or_insert(0) += 1;
+    }
+    assert!(counts.keys().eq(&[0, 21, 22, 23]), "{counts:?}");
+    assert!(counts[&0] > 600, "{counts:?}");
+    assert!(counts.values().all(|&count| count > 100), "{counts:?}");
+}
+
+#[test]
+fn all_verdicts_occur_in_large_programs() {
+    let mut random = Random::seeded(23);
+    let (mut counts, mut full) = (BTreeMap::new(), 0);
+    for _ in 0..400 {
+        let table = closed_program(&mut random, 256).table();
+        full += usize::from(table.terms.len() == 256);
+        *counts.entry(number(&table)).or_insert(0) += 1;
+    }
+    assert!(counts.keys().eq(&[0, 21, 22, 23]), "{counts:?}");
+    assert!(counts.values().all(|&count| count > 20), "{counts:?}");
+    assert!(full > 100, "{full} programs have 256 rows");
+}
+
+#[test]
+fn every_size_occurs() {
+    let mut random = Random::seeded(24);
+    for rows in 1..=256 {
+        let exact = (0..40).any(|_| closed_program(&mut random, rows).table().terms.len() == rows);
+        assert!(exact, "no program has {rows} rows");
+    }
+}
+
+#[test]
+fn the_features_occur() {
+    let (mut shared, mut arrows, mut redeclared, mut late, mut free) = (0, 0, 0, 0, 0);
+    let (mut words, mut rows) = (BTreeMap::new(), BTreeMap::new());
+    for program in programs(25, 1000) {
+        let table = program.table();
+        let uses = |row| table.params.iter().filter(|p| usize::from(p.type_row) == row).count();
+        let any_rows = (0..table.types.len()).filter(|&row| table.types[row] == TypeRow::Any);
+        shared += usize::from(any_rows.clone().any(|row| uses(row) > 1));
+        arrows += usize::from(table.types.iter().any(|row| !row.parts().is_empty()));
+        redeclared += usize::from(!program.redeclarations.is_empty());
+        let first_term = program.lines.iter().position(|line| line.starts_with('E')).unwrap();
+        late += usize::from(program.lines[first_term..].iter().any(|line| line.starts_with('T')));
+        match judge(&table) {
+            Ok(judgement) => {
+                let slots = judgement.params.iter().chain(&judgement.terms);
+                free += usize::from(slots.clone().any(|slot| slot.shape == Shape::Any));
+                slots.for_each(|slot| *words.entry(slot.word.word()).or_insert(0) += 1);
+            }
+            Err(refusal) => *rows.entry(refusal.row).or_insert(0) += 1,
+        }
+    }
+    for count in [shared, arrows, redeclared, late, free] {
+        assert!(count > 50, "{:?}", [shared, arrows, redeclared, late, free]);
+    }
+    assert!(words.len() == 7 && words.values().all(|&count| count > 20), "{words:?}");
+    assert!(rows.len() > 50, "{rows:?}");
+}
+
+#[test]
+fn damaged_lines_are_read_or_not() {
+    let mut random = Random::seeded(26);
+    let (mut well_formed, mut malformed) = (0, 0);
+    for program in programs(27, 60) {
+        for line in &program.lines {
+            let changed = changed_line(&mut random, line.as_bytes());
+            assert_eq!(changed.split(|&byte| byte == b',').count(), line.split(',').count());
+            let damaged = damaged_line(&mut random, line.as_bytes());
+            match read(&damaged) {
+                Some(_) => well_formed += 1,
+                None => malformed += 1,
+            }
+        }
+    }
+    assert!(well_formed > 300 && malformed > 300, "{well_formed} {malformed}");
+    assert!((0..200).all(|_| any_bytes(&mut random, 70).len() <= 70));
+    assert!((0..200).all(|_| damaged_line(&mut random, b"").len() <= 80));
+    assert!((0..200).all(|_| damaged_text(&mut random, b"").len() <= 80));
+}
+
+/// The number that the C entry returns, worked out from what `place` prints.
+fn entry_number(printed: &[u8]) -> u32 {
+    let text = String::from_utf8(printed.to_vec()).unwrap();
+    let fields: Vec<&str> = text.trim_end().split(',').collect();
+    match fields[0] {
+        "OK" => 100_000 + printed.len() as u32,
+        _ => fields[1].parse::<u32>().unwrap() * 1_000 + fields[2].parse::<u32>().unwrap(),
+    }
+}
+
+#[test]
+fn the_entry_and_place_agree_on_damaged_texts() {
+    let mut random = Random::seeded(28);
+    let mut counts = BTreeMap::new();
+    for program in programs(29, 1500) {
+        let text = damaged_text(&mut random, &program.text());
+        let printed = place(&text);
+        let mut buffer = [9; 6290];
+        let returned = entry(&text, &mut buffer);
+        assert_eq!(returned, entry_number(&printed));
+        let written = if returned > 100_000 { &printed[..] } else { b"" };
+        assert!(buffer.starts_with(written));
+        assert!(buffer[written.len()..].iter().all(|&byte| byte == 9));
+        let number = if returned > 100_000 { 0 } else { returned / 1_000 };
+        *counts.entry(number).or_insert(0) += 1;
+    }
+    for number in [0, 1, 2, 4, 5, 6, 7, 8, 10, 21, 22, 23] {
+        assert!(counts.contains_key(&number), "{number} does not occur: {counts:?}");
+    }
+}
+
+#[test]
+fn any_bytes_are_refused_with_a_number() {
+    let mut random = Random::seeded(31);
+    for _ in 0..3000 {
+        let text = any_bytes(&mut random, 200);
+        let printed = place(&text);
+        let expected: &[u8] = if text.is_empty() { b"NO,10,0\n" } else { b"X,1,1\n" };
+        assert_eq!(printed, expected);
+        assert_eq!(entry(&text, &mut [0; 6280]), entry_number(&printed));
+    }
+}
+
+/// Makes a call; gives its number and asserts that a refusal changes nothing.
+fn make(table: &mut Table, call: &Call) -> u32 {
+    let before = table.clone();
+    let number = match call {
+        Call::Add(line) => table.add(line),
+        Call::Redeclare(parameter, code) => table.redeclare(*parameter, *code),
+        Call::TakeBack => table.take_back(),
+        Call::Infer(length, fill) => {
+            let mut buffer = vec![*fill; *length];
+            let Answer { number, row, length } = table.infer(&mut buffer);
+            assert!(number == 0 || length == 0);
+            assert!(number > 20 || row == 0);
+            assert!(buffer[length as usize..].iter().all(|byte| byte == fill));
+            assert_eq!(*table, before);
+            number
+        }
+    };
+    assert!(number == 0 || *table == before);
+    number
+}
+
+#[test]
+fn random_calls_meet_every_number() {
+    let mut random = Random::seeded(30);
+    let mut counts = BTreeMap::new();
+    for _ in 0..400 {
+        let rows = random.between(1, 120);
+        let mut table = Table::fresh();
+        for call in call_list(&mut random, rows) {
+            *counts.entry(make(&mut table, &call)).or_insert(0) += 1;
+        }
+        assert!(table.types.len() <= 64 && table.params.len() <= 64 && table.terms.len() <= 256);
+    }
+    for number in [0, 1, 2, 4, 5, 6, 7, 8, 10, 11, 12, 21, 22, 23] {
+        assert!(counts.contains_key(&number), "{number} does not occur: {counts:?}");
+    }
+}
