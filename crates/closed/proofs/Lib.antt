@@ -1,0 +1,5 @@
+pub mod Bits
+pub mod Gathering
+pub mod Scope
+pub mod Walk
+pub mod Answers

@@ -1,0 +1,91 @@
+-- How large the values are that the definitions of a number, a qualifier, a scheme and an operation give.
+use Prim.Native.Nat.{ℕ, _+_, _≤_, _<_}
+use native.Mathlib.Nat.{le-of-lt}
+use native.Mathlib.Omega.{arith}
+use mathlib.Core.Bool.{Bool, true, false, _&&_, cond}
+use mathlib.Core.List.{List, [], _∷_}
+use mathlib.Core.Path.{_≡_, refl, sym, _∙_}
+use lib.Dec.{eqb, leb}
+use lib.ListN.{length}
+use mir.Syntax.{Width}
+use mir.Val.{Fits}
+use mir.Facts.{fits-le}
+use borrow.Author.Tests.{leb-true}
+use Rattle.scheme.proofs.Every.{and-right}
+use Rattle.model.specs.Lists.{allOf}
+use Rattle.model.specs.Number.{isDigit, valueFrom, noLeadingZero, numberOf}
+use Rattle.model.specs.Word.{spells, placeIn, qualifierWords, operationWords, schemeWords, orElse, variableCode, variableOf, qualifierOf, schemeOf, operationOf}
+use Rattle.model.specs.declared.Field.{Field}
+use Rattle.model.specs.declared.Field.the-variants.{Value, NoValue}
+
+-- No value is none.
+none-is-none : {A : Type 0} (n : ℕ) → NoValue ≡ Value n → A
+none-is-none n e = let z : _≡_ {A = ℕ} 0 1 = cc in absurd (omega arith)
+
+-- A value that stands under a test was given: the test passed.
+passed : (t : Bool) (v n : ℕ) → cond t (Value v) NoValue ≡ Value n → (t ≡ true) × (v ≡ n)
+passed true v n e = (refl, cc)
+passed false v n e = none-is-none n e
+
+pub number-at-most : (most : ℕ) (s : List ℕ) (n : ℕ) → numberOf most s ≡ Value n → n ≤ most
+unfolding numberOf
+number-at-most most s n e = go (noLeadingZero s && allOf isDigit s) (leb (valueFrom 0 s) most) refl e
+  where
+    go : (a b : Bool) → leb (valueFrom 0 s) most ≡ b → cond (a && b) (Value (valueFrom 0 s)) NoValue ≡ Value n → n ≤ most
+    go a b p q =
+        let r : ((a && b) ≡ true) × (valueFrom 0 s ≡ n) = passed (a && b) (valueFrom 0 s) n q in
+        omega (arith, leb-true (valueFrom 0 s) most (p ∙ and-right a b (r .0)))
+
+-- A place among words, counted from c.
+place-between : (c : ℕ) (words : List (List ℕ)) (s : List ℕ) (n : ℕ) → placeIn c words s ≡ Value n → (c ≤ n) × (n < c + length words)
+place-between c [] s n e = none-is-none n e
+place-between c (word ∷ words) s n e = by (spells s word) e (place-between (c + 1) words s n)
+  where
+    by : (t : Bool) → cond t (Value c) (placeIn (c + 1) words s) ≡ Value n
+        → (placeIn (c + 1) words s ≡ Value n → (c + 1 ≤ n) × (n < c + 1 + length words)) → (c ≤ n) × (n < c + length (word ∷ words))
+    by true p q = let v : c ≡ n = cc in (omega arith, omega arith)
+    by false p q = let r : (c + 1 ≤ n) × (n < c + 1 + length words) = q p in (omega arith, omega arith)
+
+pub scheme-between : (s : List ℕ) (c : ℕ) → schemeOf s ≡ Value c → (1 ≤ c) × (c ≤ 6)
+unfolding schemeOf
+scheme-between s c e = let r : (1 ≤ c) × (c < 7) = place-between 1 schemeWords s c e in (r .0, omega arith)
+
+pub operation-below : (s : List ℕ) (c : ℕ) → operationOf s ≡ Value c → c < 5
+unfolding operationOf
+operation-below s c e = place-between 0 operationWords s c e .1
+
+variable-at-most : (s : List ℕ) (c : ℕ) → variableOf s ≡ Value c → c ≤ 70
+variable-at-most [] c e = none-is-none c e
+variable-at-most (b ∷ bs) c e = go (eqb b 103) (numberOf 63 bs) refl e
+  where
+    go : (t : Bool) (f : Field) → numberOf 63 bs ≡ f → cond t (variableCode f) NoValue ≡ Value c → c ≤ 70
+    go true (Value k) p q = let v : k + 7 ≡ c = cc in omega (arith, number-at-most 63 bs k p)
+    go true NoValue p q = none-is-none c q
+    go false f p q = none-is-none c q
+
+pub qualifier-at-most : (s : List ℕ) (c : ℕ) → qualifierOf s ≡ Value c → c ≤ 70
+unfolding qualifierOf
+qualifier-at-most s c e = go (placeIn 0 qualifierWords s) refl e
+  where
+    go : (f : Field) → placeIn 0 qualifierWords s ≡ f → orElse f (variableOf s) ≡ Value c → c ≤ 70
+    go (Value n) p q = let v : n ≡ c = cc in omega (arith, place-between 0 qualifierWords s n p .1)
+    go NoValue p q = variable-at-most s c q
+
+-- So what was read fits where its largest value does: each cast of a value that was read is closed by `search (fits, needs)`.
+read-fits : {w : Width} {x r : Field} {n m : ℕ} → r ≡ x → r ≡ Value n → (x ≡ Value n → n ≤ m) → Fits w m → Fits w n
+read-fits p q bound f = fits-le (bound (sym p ∙ q)) f
+
+module _ (w : Width) (s : List ℕ) (r : Field) (n : ℕ) (v : r ≡ Value n) where
+  pub number-fits : (most : ℕ) → r ≡ numberOf most s → Fits w most → Fits w n
+  number-fits most e = read-fits e v (number-at-most most s n)
+
+  pub qualifier-fits : r ≡ qualifierOf s → Fits w 70 → Fits w n
+  qualifier-fits e = read-fits e v (qualifier-at-most s n)
+
+  pub scheme-fits : r ≡ schemeOf s → Fits w 6 → Fits w n
+  scheme-fits e = read-fits e v (λ p. scheme-between s n p .1)
+
+  pub operation-fits : r ≡ operationOf s → Fits w 5 → Fits w n
+  operation-fits e = read-fits e v (λ p. le-of-lt (operation-below s n p))
+
+pub ruleset fits = (number-fits, qualifier-fits, scheme-fits, operation-fits)

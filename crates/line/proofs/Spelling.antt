@@ -1,0 +1,129 @@
+-- The loops that compare bytes and look a word up, and a named variable by its first byte and its number.
+use Prim.Native.Nat.{ℕ, suc, _+_, _-_, _≤_, _<_}
+use native.Mathlib.Omega.{arith}
+use native.Mathlib.Nat.{add-zero, add-suc}
+use native.Mathlib.Numerals.{add-one}
+use mathlib.Core.Bool.{Bool, true, false, and-false}
+use mathlib.Core.List.{List, [], _∷_}
+use mathlib.Core.Path.{_≡_, refl, sym, ap, _∙_}
+use lib.Dec.{eqb}
+use lib.ListN.{length, getD, take, drop, drop-of-length-le}
+use lib.Seq.{drop-cons, take-all}
+use mir.Syntax.{w32}
+use mir.Val.{Fits}
+use borrow.Author.Tests.{eq-eqb, ne-eqb}
+use Rattle.model.specs.Lists.{same}
+use Rattle.model.specs.Number.{numberOf}
+use Rattle.model.specs.Line.{fields, field}
+use Rattle.model.specs.Word.{spells, placeIn, orElse, variableCode, variableOf}
+use Rattle.model.specs.declared.Field.{Field}
+use Rattle.model.specs.declared.Field.the-variants.{Value, NoValue}
+use Rattle.line.proofs.Bounds.{number-at-most}
+
+-- Bytes of another count are not the same.
+pub same-length : (s t : List ℕ) → (length s ≡ length t → ⊥) → false ≡ same s t
+same-length [] [] h = absurd (h refl)
+same-length [] (b ∷ bs) h = refl
+same-length (a ∷ as′) [] h = refl
+same-length (a ∷ as′) (b ∷ bs) h = simp (sym (same-length as′ bs (λ e. h (ap suc e)))) (sym (and-false (eqb a b)))
+
+-- After i bytes the rest decides.
+pub record Compared (s t : List ℕ) (i : ℕ) : Type 0 where
+  pub within : i ≤ length s
+  pub long : length s ≡ length t
+  pub rest : same s t ≡ same (drop i s) (drop i t)
+
+pub same-first : (s t : List ℕ) → length s ≡ length t → Compared s t 0
+same-first s t e = record { within = omega arith; long = e; rest = refl }
+
+module _ (s t : List ℕ) (i : ℕ) (c : Compared s t i) where
+  pub same-end : length s ≤ i → true ≡ same s t
+  same-end h =
+      let l : length s ≡ length t = c .long in
+      let h′ : length t ≤ i = omega arith in
+      sym (c .rest ∙ simp (drop-of-length-le s h, drop-of-length-le t h′))
+
+  module _ (h : i < length s) where
+    pub same-differ : (getD s i 0 ≡ getD t i 0 → ⊥) → false ≡ same s t
+    same-differ e =
+        let l : length s ≡ length t = c .long in
+        let h′ : i < length t = omega arith in
+        sym (c .rest ∙ simp (drop-cons s i 0 h, drop-cons t i 0 h′, ne-eqb (getD s i 0) (getD t i 0) e))
+
+    pub same-next : getD s i 0 ≡ getD t i 0 → Compared s t (i + 1)
+    same-next e =
+        let l : length s ≡ length t = c .long in
+        let h′ : i < length t = omega arith in
+        record {
+          within = omega arith;
+          long = l;
+          rest = c .rest ∙ simp (drop-cons s i 0 h, drop-cons t i 0 h′, eq-eqb (getD s i 0) (getD t i 0) e, add-one);
+        }
+
+pub ruleset compares = (same-length, same-first, same-end, same-differ, same-next)
+
+-- After k words the place is that among the rest.
+pub record Placed (s words : List ℕ) (first n k : ℕ) : Type 0 where
+  pub within : k ≤ n
+  pub all : n ≡ length (fields words)
+  pub rest : placeIn first (fields words) s ≡ placeIn (first + k) (drop k (fields words)) s
+
+module _ (s words : List ℕ) (first n : ℕ) where
+  pub place-first : n ≡ length (fields words) → Placed s words first n 0
+  place-first e = record { within = omega arith; all = e; rest = rw add-zero }
+
+  module _ (k : ℕ) (p : Placed s words first n k) where
+    pub place-end : n ≤ k → NoValue ≡ placeIn first (fields words) s
+    place-end h =
+        let a : n ≡ length (fields words) = p .all in
+        let h′ : length (fields words) ≤ k = omega arith in
+        sym (p .rest ∙ simp (drop-of-length-le (fields words) h′))
+
+    module _ (h : k < n) (w : List ℕ) (r : Bool) (f : w ≡ field words k) (e : r ≡ spells s w) where
+      pub place-here : r ≡ true → Value (first + k) ≡ placeIn first (fields words) s
+      place-here t =
+          let a : n ≡ length (fields words) = p .all in
+          let h′ : k < length (fields words) = omega arith in
+          let y : spells s (field words k) ≡ true = cc in
+          sym (p .rest ∙ simp (drop-cons (fields words) k [] h′, y))
+
+      pub place-next : r ≡ false → Placed s words first n (k + 1)
+      place-next t =
+          let a : n ≡ length (fields words) = p .all in
+          let h′ : k < length (fields words) = omega arith in
+          let y : spells s (field words k) ≡ false = cc in
+          record { within = omega arith; all = a; rest = p .rest ∙ simp (drop-cons (fields words) k [] h′, y, add-one, add-suc) }
+
+pub ruleset places = (place-first, place-end, place-here, place-next)
+
+-- A named variable: its first byte, then its number.
+pub variable-none : (s : List ℕ) → length s ≡ 0 → NoValue ≡ variableOf s
+variable-none [] h = refl
+variable-none (b ∷ bs) h = absurd (omega arith)
+
+pub variable-other : (s : List ℕ) → (getD s 0 0 ≡ 103 → ⊥) → NoValue ≡ variableOf s
+variable-other [] h = refl
+variable-other (b ∷ bs) h = simp (ne-eqb b 103 h)
+
+variable-number : (s : List ℕ) → (length s ≡ 0 → ⊥) → getD s 0 0 ≡ 103 → variableCode (numberOf 63 (take (length s - 1) (drop 1 s))) ≡ variableOf s
+variable-number [] h e = absurd (h refl)
+variable-number (b ∷ bs) h e = let l : length bs ≤ length (b ∷ bs) - 1 = omega arith in simp (e, take-all (length (b ∷ bs) - 1) bs l)
+
+module _ (s : List ℕ) (some : length s ≡ 0 → ⊥) (g : getD s 0 0 ≡ 103) (r : Field) (e : r ≡ numberOf 63 (take (length s - 1) (drop 1 s))) where
+  pub variable-value : (k : ℕ) → r ≡ Value k → Value (k + 7) ≡ variableOf s
+  variable-value k v = simp (← variable-number s some g, ← e, v)
+
+  pub variable-no-value : r ≡ NoValue → NoValue ≡ variableOf s
+  variable-no-value v = simp (← variable-number s some g, ← e, v)
+
+pub variable-fits : (s : List ℕ) (r : Field) (k : ℕ) → r ≡ numberOf 63 s → r ≡ Value k → Fits w32 (k + 7)
+variable-fits s r k e v = omega (arith, number-at-most 63 s k (sym e ∙ v))
+
+pub ruleset variables = (variable-none, variable-other, variable-value, variable-no-value, variable-fits)
+
+-- A qualifier: a word's place, else a named variable.
+pub else-first : (x y r : Field) (n : ℕ) → r ≡ x → r ≡ Value n → Value n ≡ orElse x y
+else-first x y r n e v = simp (sym e ∙ v)
+
+pub else-second : (x y r l : Field) → r ≡ x → r ≡ NoValue → l ≡ y → l ≡ orElse x y
+else-second x y r l e v p = simp (sym e ∙ v) p

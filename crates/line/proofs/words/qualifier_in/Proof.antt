@@ -1,0 +1,19 @@
+-- The byte string's fields are the definition's words; after them come the named variables.
+use borrow.Author.Needs.{needs}
+use Rattle.model.specs.Word.{qualifierOf}
+use Rattle.line.proofs.Spelling.{else-first, else-second}
+use Rattle.line.proofs.words.qualifier_in.Statement.{statement}
+use Rattle.line.proofs.words.qualifier_in.Tie as tie
+
+pub qualifier-in-spec : {M : Type 1} → statement M
+unfolding qualifierOf
+qualifier-in-spec =
+    tie.close
+    (tie.spec
+    (λ c. search needs)
+    (λ c κs. search needs)
+    (λ c. search needs)
+    (λ c. search needs)
+    (λ c κs. search needs)
+    (λ c. search (else-first, needs))
+    (λ c. search (else-second, needs)))

@@ -1,0 +1,90 @@
+// The words of a line: qualifiers, schemes and operations by their codes.
+ghost use mathlib.Core.Path.{_≡_};
+ghost use Prim.Native.Nat.{_+_, _≤_};
+ghost use lib.ListN.{length};
+ghost use Rattle.model.specs.Lists.{same};
+ghost use Rattle.model.specs.Line.{fields};
+ghost use Rattle.model.specs.Word.{spells, placeIn, variableOf, qualifierOf, schemeOf, operationOf};
+use crate::fields;
+use crate::numbers;
+use model::Field;
+
+// Whether both have the same bytes.
+pub(crate) fn same(s: &[u8], t: &[u8]) -> bool
+    ensures { λ r. ⌜ r ≡ same (now (s .entry)) (now (t .entry)) ⌝ }
+{
+    if s.len() != t.len() {
+        return false;
+    }
+    let mut i = 0;
+    while i < s.len() {
+        if s[i] != t[i] {
+            return false;
+        }
+        i += 1;
+    }
+    true
+}
+
+// Whether the bytes spell the word: capitals only.
+pub(crate) fn spells(s: &[u8], word: &[u8]) -> bool
+    ensures { λ r. ⌜ r ≡ spells (now (s .entry)) (now (word .entry)) ⌝ }
+{
+    same(s, word)
+}
+
+// The place of the bytes among words that are parted by commas, counted from `first`.
+fn place_in(s: &[u8], words: &[u8], first: u32) -> Field
+    requires { ⌜ first + length (fields (now words)) ≤ 4294967295 ⌝ }
+    ensures { λ r. ⌜ r ≡ placeIn first (fields (now (words .entry))) (now (s .entry)) ⌝ }
+{
+    let n = fields::count(words);
+    let mut k = 0;
+    while k < n {
+        if spells(s, fields::field(words, k)) {
+            return Field::Value(first + k as u32);
+        }
+        k += 1;
+    }
+    Field::NoValue
+}
+
+// One of the six schemes: 1 to 6.
+pub(crate) fn scheme_in(s: &[u8]) -> Field
+    ensures { λ r. ⌜ r ≡ schemeOf (now (s .entry)) ⌝ }
+{
+    place_in(s, b"FHE,OP,DET,MH,AH,RAND", 1)
+}
+
+// One of the five operations: 0 to 4.
+pub(crate) fn operation_in(s: &[u8]) -> Field
+    ensures { λ r. ⌜ r ≡ operationOf (now (s .entry)) ⌝ }
+{
+    place_in(s, b"ADD,MUL,EQ,LT,GT", 0)
+}
+
+// A named variable, g0 to g63: 7 to 70.
+fn variable_in(s: &[u8]) -> Field
+    ensures { λ r. ⌜ r ≡ variableOf (now (s .entry)) ⌝ }
+{
+    if s.len() == 0 {
+        return Field::NoValue;
+    }
+    if s[0] != b'g' {
+        return Field::NoValue;
+    }
+    match numbers::number_in(&s[1..], 63) {
+        Field::Value(k) => Field::Value(k + 7),
+        Field::NoValue => Field::NoValue,
+    }
+}
+
+// A qualifier: 0 to 6 for the words, 7 to 70 for the named variables.
+pub(crate) fn qualifier_in(s: &[u8]) -> Field
+    ensures { λ r. ⌜ r ≡ qualifierOf (now (s .entry)) ⌝ }
+{
+    match place_in(s, b"PLAIN,FHE,OP,DET,MH,AH,RAND", 0) {
+        Field::Value(c) => Field::Value(c),
+        Field::NoValue => variable_in(s),
+    }
+}

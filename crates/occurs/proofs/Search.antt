@@ -1,0 +1,153 @@
+-- Each exit of the search answers rightly, and each step keeps the meaning of the marks.
+use Prim.Native.Nat.{ℕ, _-_, _<_, _≤_}
+use native.Mathlib.Omega.{arith}
+use mathlib.Core.Bool.{true, false}
+use mathlib.Core.List.{List}
+use mathlib.Core.Path.{_≡_, refl, sym, ap, subst, _∙_}
+use lib.Dec.{eqb}
+use lib.ListN.{set, length-set}
+use lib.Seq.{getD-set-same, getD-set-other}
+use borrow.Author.Tests.{eq-eqb, ne-eqb, eqb-true}
+use Rattle.model.specs.Typing.{Ty}
+use Rattle.forest.specs.Forest.{up, Reach, here, further, Found}
+use Rattle.forest.proofs.Links.{by-eq}
+use Rattle.graph.specs.Types.{kindAt, argument, result, TypeClasses, Reads}
+use Rattle.graph.specs.Search.{Finite, under, leaf, node, Searched}
+use Rattle.occurs.specs.Marks.{markAt, unseen, size, Way, Kept, Walked, Between}
+use Rattle.occurs.proofs.Tally.{tally-less}
+use Rattle.occurs.proofs.Readings.{TypePart, reads-root, smaller-part}
+use Rattle.occurs.proofs.Marks.{kept-none, marked-finite}
+
+true-false : true ≡ false → ⊥
+true-false e = let z : _≡_ {A = ℕ} 0 1 = cc in omega arith
+
+module _ {p k kids : List ℕ} where
+  -- A node's type is finite where its root's is.
+  finite-reach : {x r : ℕ} → Reach p x r → Finite p k kids r → Finite p k kids x
+  finite-reach here f = f
+  finite-reach (further {r} reach h) f =
+      finite-reach reach (by-eq (up p r) r (λ e. subst (Finite p k kids) e f) (λ n. under h n f))
+
+  walked : {m m′ : List ℕ} {x : ℕ} → Finite p k kids x → Kept p k kids m m′ → Walked p k kids m m′ x true
+  walked f kept = record { finite = λ _. f; kept = λ _. kept; none = λ e. absurd (true-false e) }
+
+  pub walked-none :
+      {m m′ : List ℕ} {x : ℕ} → ((t : ℕ → Ty ℕ) (v : ℕ → ℕ) → Reads p k kids t v → ⊥) → Walked p k kids m m′ x false
+  walked-none none =
+      record { finite = λ e. absurd (true-false (sym e)); kept = λ e. absurd (true-false (sym e)); none = λ _. none }
+
+  module _ {m : List ℕ} {x r : ℕ} (h : x < 327) (found : Found p x r) (way : Way p k kids m x) where
+    root-below : r < 327
+    root-below = omega (arith, found .low)
+
+    pub no-arrow : kindAt k r < 2 → Walked p k kids m m x true
+    no-arrow few = walked (finite-reach (found .reached) (leaf root-below (found .root) few)) (kept-none (way .sound))
+
+    pub marked-already : 2 ≤ markAt m r → Walked p k kids m m x true
+    marked-already e = walked (finite-reach (found .reached) (way .sound .done r root-below e)) (kept-none (way .sound))
+
+    -- The root is on the way to itself: in a reading its type would be larger than itself.
+    pub contains-itself : markAt m r ≡ 1 → Walked p k kids m m x false
+    contains-itself e =
+        walked-none (λ t v reads. omega (arith, way .larger r root-below e t v reads, ap size (reads-root reads found)))
+
+    -- The root is put on the way.
+    entered-at : markAt (set m r 1) r ≡ 1
+    entered-at = getD-set-same m r 1 0 (omega (arith, root-below, way .sound .size))
+
+    entered-other : (y : ℕ) → (y ≡ r → ⊥) → markAt (set m r 1) y ≡ markAt m y
+    entered-other y d = getD-set-other m r y 1 0 d
+
+    pub entered : Kept p k kids (set m r 1) (set m r 1)
+    entered =
+        kept-none
+        (record {
+          size = length-set m r 1 ∙ way .sound .size;
+          done =
+              λ y l e.
+              by-eq y r
+              (λ d. absurd (omega (arith, ap (markAt (set m r 1)) d, entered-at)))
+              (λ d. way .sound .done y l (omega (arith, entered-other y d)));
+        })
+
+    module _ {m′ : List ℕ} (kept : Kept p k kids (set m r 1) m′) where
+      -- The search goes on to a part, whose type is smaller than the root's in every reading.
+      pub way-on : (c : ℕ) → 2 ≤ kindAt k r → TypePart kids (kindAt k r - 2) c → Way p k kids m′ c
+      way-on c many part =
+          record {
+            sound = kept .sound;
+            larger =
+                λ y l e t v reads.
+                let before : markAt m′ y ≡ markAt (set m r 1) y = kept .same y l (omega arith) in
+                let less : size (t c) < size (t r) = smaller-part reads r c root-below many part in
+                by-eq y r
+                (λ d. omega (arith, ap (λ (z : ℕ). size (t z)) d))
+                (λ d.
+                omega
+                (arith, way .larger y l (sym (entered-other y d) ∙ sym before ∙ e) t v reads, ap size (reads-root reads found)));
+          }
+
+      pub fewer-unseen : markAt m r ≡ 0 → unseen m′ < unseen m
+      unfolding unseen
+      fewer-unseen e =
+          tally-less
+          (λ y. eqb (markAt m′ y) 0)
+          (λ y. eqb (markAt m y) 0)
+          327
+          r
+          root-below
+          (ne-eqb (markAt m′ r) 0 (λ z. omega (arith, entered-at, kept .same r root-below (omega arith))))
+          (eq-eqb (markAt m r) 0 e)
+          (λ y l z.
+          let zero-mark = eqb-true (markAt m′ y) 0 z in
+          let before = kept .same y l (omega arith) in
+          by-eq y r
+          (λ d. absurd (omega (arith, ap (markAt (set m r 1)) d, entered-at)))
+          (λ d. eq-eqb (markAt m y) 0 (omega (arith, entered-other y d))))
+
+      -- Both parts are finite.
+      pub finished :
+          2 ≤ kindAt k r →
+          {a b : ℕ} →
+          a ≡ argument kids (kindAt k r - 2) →
+          b ≡ result kids (kindAt k r - 2) →
+          Finite p k kids a →
+          Finite p k kids b →
+          Walked p k kids m (set m′ r 2) x true
+      finished many d e f g =
+          let finite : Finite p k kids r =
+          node root-below (found .root) many (subst (Finite p k kids) d f) (subst (Finite p k kids) e g) in
+          walked
+          (finite-reach (found .reached) finite)
+          (marked-finite m m′ r root-below finite (kept .sound) (λ y l d e. kept .same y l e ∙ entered-other y d))
+
+  -- All nodes below are finite: a node that is no root or no arrow is, and an arrow whose parts are below.
+  module _ {m : List ℕ} {x : ℕ} (classes : TypeClasses p k) (h : x < 327) (between : Between p k kids m x) where
+    pub next-no-arrow : kindAt k x < 2 → Walked p k kids m m x true
+    next-no-arrow few =
+        walked
+        (by-eq (up p x) x
+        (λ root. leaf h root few)
+        (λ inner. under h inner (between .below (up p x) (omega (arith, classes .forest .low x h)))))
+        (kept-none (between .sound))
+
+    pub next-arrow :
+        2 ≤ kindAt k x →
+        {a b : ℕ} →
+        a ≡ argument kids (kindAt k x - 2) →
+        b ≡ result kids (kindAt k x - 2) →
+        a < x →
+        b < x →
+        Walked p k kids m (set m x 2) x true
+    next-arrow many d e a-below b-below =
+        let f : Finite p k kids (argument kids (kindAt k x - 2)) = subst (Finite p k kids) d (between .below _ a-below) in
+        let g : Finite p k kids (result kids (kindAt k x - 2)) = subst (Finite p k kids) e (between .below _ b-below) in
+        let finite : Finite p k kids x =
+        by-eq (up p x) x (λ root. node h root many f g) (λ inner. absurd (omega (arith, classes .bare x h inner))) in
+        walked finite (marked-finite m m x h finite (between .sound) (λ y l d e. refl))
+
+  pub searched : ((x : ℕ) → x < 327 → Finite p k kids x) → Searched p k kids true
+  searched all = record { finite = λ _. all; none = λ e. absurd (true-false e) }
+
+  pub searched-none : ((t : ℕ → Ty ℕ) (v : ℕ → ℕ) → Reads p k kids t v → ⊥) → Searched p k kids false
+  searched-none none = record { finite = λ e. absurd (true-false (sym e)); none = λ _. none }

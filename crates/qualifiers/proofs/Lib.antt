@@ -1,0 +1,4 @@
+pub mod Below
+pub mod Bounds
+pub mod Uniting
+pub mod Readings

@@ -1,0 +1,162 @@
+-- What the exits of `root`, `join`, `unite` and `unite_all` leave.
+use Prim.Native.Nat.{ℕ, _<_, _≤_, _+_}
+use native.Mathlib.Omega.{arith}
+use borrow.Author.Count.{below-none, below-more}
+use mathlib.Core.Bool.{Bool, true, false, true≢false, false≢true}
+use mathlib.Core.List.{List}
+use mathlib.Core.Path.{_≡_, refl, sym, ap, _∙_}
+use lib.ListN.{getD, set}
+use Rattle.scheme.specs.Meet.{meetOf}
+use Rattle.forest.specs.Forest.{up, Forest, Linked, Reach, here, further, Found}
+use Rattle.forest.proofs.Links.{by-eq, up-same, up-other, linked-into, linked-outof, linked-joins, shorter-into, shorter-outof}
+use Rattle.qualifiers.specs.Classes.{boundAt, Classes, Rooted, Roots, United, UnitedAll}
+use Rattle.qualifiers.proofs.Bounds.{sinks-along, put-under-keeps, lowered}
+
+-- From a root no other node is reached.
+root-reaches : {p : List ℕ} {x r : ℕ} → up p x ≡ x → Reach p x r → r ≡ x
+root-reaches root here = refl
+root-reaches root (further reach node) = cc (root-reaches root reach)
+
+pub rooted : {p : List ℕ} → Forest p → (x r : ℕ) → x < 327 → Found p x r → Rooted p (set p x r) x r
+rooted {p} f x r node found =
+    let stays : (z : ℕ) → up p z ≡ z → up (set p x r) z ≡ z =
+    λ z root. by-eq z x (λ e. cc (up-same f x r node, root-reaches {x = x} {r = r} (cc) (found .reached))) (λ n. up-other f x r node z n ∙ root) in
+    record {
+      low = found .low;
+      under = up-same f x r node;
+      root = stays r (found .root);
+      roots = stays;
+      classes = λ b k. put-under-keeps k x r node (found .low) (λ h. root-reaches (k .constants x h) (found .reached)) (sinks-along k node (found .reached));
+      into = shorter-into f node found;
+      outof = shorter-outof f node found;
+    }
+
+module _ {p b : List ℕ} (k : Classes p b) (low high : ℕ) (roots : Roots p low high) where
+  -- Two constants have their own codes in every reading.
+  pub join-clash : high < 7 → United p b p b low high false
+  join-clash constant =
+      record {
+        classes = k;
+        into = λ e. absurd (false≢true e);
+        outof = λ e. absurd (false≢true e);
+        bounds-into = λ e. absurd (false≢true e);
+        bounds-outof = λ e. absurd (false≢true e);
+        clash = λ _ v own linked e. omega (arith, own low (omega (arith, roots .less)), own high constant, roots .less);
+      }
+
+  pub joined : 7 ≤ high → United p b (set p high low) (set b low (meetOf (boundAt b low) (boundAt b high))) low high true
+  joined free =
+      let l = lowered k low (boundAt b high) (omega (arith, roots .less, roots .node)) (k .codes high (roots .node)) (roots .low-root) in
+      let joins : (v : ℕ → ℕ) → Linked (set p high low) v → v high ≡ v low = linked-joins (k .forest) high low (roots .node) in
+      record {
+        classes =
+            put-under-keeps (l .classes) high low (roots .node)
+            (omega (arith, roots .less))
+            (λ constant. absurd (omega arith))
+            (cc (l .fits, l .off high (λ e. omega (arith, roots .less))));
+        into = λ _ v linked e. linked-into (k .forest) high low (roots .node) v linked (sym e);
+        outof = λ _ v linked. (linked-outof (k .forest) high low (roots .node) v linked (ap v (sym (roots .high-root))), sym (joins v linked));
+        bounds-into = λ _ v linked bounded. l .into v bounded (cc (bounded high (roots .node), joins v linked));
+        bounds-outof = λ _ v linked bounded. l .outof v bounded .0;
+        clash = λ e. absurd (true≢false e);
+      }
+
+pub united-turned : {p b p′ b′ : List ℕ} {x y : ℕ} {r : Bool} → United p b p′ b′ y x r → United p b p′ b′ x y r
+united-turned u =
+    record {
+      classes = u .classes;
+      into = λ done v linked e. u .into done v linked (sym e);
+      outof = λ done v linked. let out = u .outof done v linked in (out .0, sym (out .1));
+      bounds-into = u .bounds-into;
+      bounds-outof = u .bounds-outof;
+      clash = λ two v own linked e. u .clash two v own linked (sym e);
+    }
+
+-- Both nodes were put under their roots, which the readings do not tell from them.
+module _ {p p₁ p₂ b : List ℕ} {x y a c : ℕ} (asked : Classes p b × ((x < 327) × (y < 327))) (first : Rooted p p₁ x a) (second : Rooted p₁ p₂ y c) where
+  kept : Classes p₂ b
+  kept = second .classes b (first .classes b (asked .0))
+
+  into-both : (v : ℕ → ℕ) → Linked p v → Linked p₂ v
+  into-both v linked = second .into v (first .into v linked)
+
+  outof-both : (v : ℕ → ℕ) → Linked p₂ v → Linked p v
+  outof-both v linked = first .outof v (second .outof v linked)
+
+  same-x : (v : ℕ → ℕ) → Linked p₂ v → v x ≡ v a
+  same-x v linked = second .outof v linked x (asked .1 .0) ∙ ap v (first .under)
+
+  same-y : (v : ℕ → ℕ) → Linked p₂ v → v y ≡ v c
+  same-y v linked = linked y (asked .1 .1) ∙ ap v (second .under)
+
+  -- What `join` asks, by which root is the smaller.
+  pub roots-rising : a < c → Classes p₂ b × Roots p₂ a c
+  roots-rising less =
+      (kept, record { less = less; node = omega (arith, second .low, asked .1); low-root = second .roots a (first .root); high-root = second .root })
+
+  pub roots-falling : c < a → Classes p₂ b × Roots p₂ c a
+  roots-falling less =
+      (kept, record { less = less; node = omega (arith, first .low, asked .1); low-root = second .root; high-root = second .roots a (first .root) })
+
+  pub united-already : a ≡ c → United p b p₂ b x y true
+  united-already e =
+      record {
+        classes = kept;
+        into = λ _ v linked _. into-both v linked;
+        outof = λ _ v linked. (outof-both v linked, same-x v linked ∙ ap v e ∙ sym (same-y v linked));
+        bounds-into = λ _ v linked bounded. bounded;
+        bounds-outof = λ _ v linked bounded. bounded;
+        clash = λ e. absurd (true≢false e);
+      }
+
+  pub united-roots : {p′ b′ : List ℕ} {r : Bool} → United p₂ b p′ b′ a c r → United p b p′ b′ x y r
+  united-roots u =
+      let up-to : (v : ℕ → ℕ) → Linked p₂ v → v x ≡ v y → v a ≡ v c = λ v linked e. sym (same-x v linked) ∙ e ∙ same-y v linked in
+      record {
+        classes = u .classes;
+        into = λ done v linked e. let after = into-both v linked in u .into done v after (up-to v after e);
+        outof = λ done v linked.
+            let out = u .outof done v linked in
+            (outof-both v (out .0), same-x v (out .0) ∙ out .1 ∙ sym (same-y v (out .0)));
+        bounds-into = u .bounds-into;
+        bounds-outof = u .bounds-outof;
+        clash = λ two v own linked e. let after = into-both v linked in u .clash two v own after (up-to v after e);
+      }
+
+-- No pair, one pair more, and a pair that clashes.
+pub all-none : {p b left right : List ℕ} → Classes p b → UnitedAll p b p b left right 0 true
+all-none {left} {right} k =
+    record {
+      classes = k;
+      into = λ _ v linked _. linked;
+      outof = λ _ v linked. (linked, below-none (λ i. v (getD left i 0) ≡ v (getD right i 0)));
+      bounds-into = λ _ v linked bounded. bounded;
+      bounds-outof = λ _ v linked bounded. bounded;
+      clash = λ e. absurd (true≢false e);
+    }
+
+module _ {p b p₁ b₁ p₂ b₂ left right : List ℕ} {i : ℕ} {r : Bool} (all : UnitedAll p b p₁ b₁ left right i true) (u : United p₁ b₁ p₂ b₂ (getD left i 0) (getD right i 0) r) where
+  pub all-more : r ≡ true → UnitedAll p b p₂ b₂ left right (i + 1) true
+  all-more done =
+      record {
+        classes = u .classes;
+        into = λ _ v linked alike. u .into done v (all .into refl v linked (λ j h. alike j (omega arith))) (alike i (omega arith));
+        outof = λ _ v linked.
+            let last = u .outof done v linked in
+            let out = all .outof refl v (last .0) in
+            (out .0, below-more (λ j. v (getD left j 0) ≡ v (getD right j 0)) i (out .1) (last .1));
+        bounds-into = λ _ v linked bounded. u .bounds-into done v linked (all .bounds-into refl v (u .outof done v linked .0) bounded);
+        bounds-outof = λ _ v linked bounded. all .bounds-outof refl v (u .outof done v linked .0) (u .bounds-outof done v linked bounded);
+        clash = λ e. absurd (true≢false e);
+      }
+
+  pub all-clash : {n : ℕ} → i < n → r ≡ false → UnitedAll p b p₂ b₂ left right n false
+  all-clash less two =
+      record {
+        classes = u .classes;
+        into = λ e. absurd (false≢true e);
+        outof = λ e. absurd (false≢true e);
+        bounds-into = λ e. absurd (false≢true e);
+        bounds-outof = λ e. absurd (false≢true e);
+        clash = λ _ v own linked alike. u .clash two v own (all .into refl v linked (λ j h. alike j (omega arith))) (alike i less);
+      }

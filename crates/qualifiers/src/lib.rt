@@ -1,0 +1,112 @@
+// Classes of qualifier nodes: made one, restricted, tested, and read off.
+ghost use mathlib.Core.Path.{_≡_};
+ghost use mathlib.Core.Bool.{true};
+ghost use Prim.Native.Nat.{ℕ, _<_};
+ghost use lib.ListN.{length};
+ghost use Rattle.scheme.specs.Order.{atOrBelow};
+ghost use Rattle.forest.specs.Forest.{Forest};
+ghost use Rattle.forest.specs.Pairs.{Pairs};
+ghost use Rattle.qualifiers.specs.Classes.{boundAt, Classes, Rooted, Roots, United, UnitedAll, Restricted, Tested, Greatest};
+
+// The root of a node. The node is put directly under it, so that the next search is short.
+fn root(parent: &mut [u16; 327], x: usize) -> usize
+    requires { ⌜ Forest (now parent) ⌝ ∗ ⌜ x < 327 ⌝ }
+    ensures { λ r. ⌜ Rooted (now (parent .entry)) (now (parent .exit)) x r ⌝ }
+{
+    let r = forest::find(parent, x);
+    forest::put_under(parent, x, r);
+    r
+}
+
+// Puts a root under a smaller one, which takes the meet of the two bounds. False: both are constants.
+fn join(parent: &mut [u16; 327], bound: &mut [u8; 327], low: usize, high: usize) -> bool
+    requires { ⌜ Classes (now parent) (now bound) ⌝ ∗ ⌜ Roots (now parent) low high ⌝ }
+    ensures { λ r. ⌜ United (now (parent .entry)) (now (bound .entry)) (now (parent .exit)) (now (bound .exit)) low high r ⌝ }
+{
+    if high < 7 {
+        return false;
+    }
+    bound[low] = scheme::meet(bound[low], bound[high]);
+    forest::put_under(parent, high, low);
+    true
+}
+
+// Makes the classes of two nodes one, under the smaller root. False: both hold a constant, and not the same one.
+pub fn unite(parent: &mut [u16; 327], bound: &mut [u8; 327], x: usize, y: usize) -> bool
+    requires { ⌜ Classes (now parent) (now bound) ⌝ ∗ ⌜ (x < 327) × (y < 327) ⌝ }
+    ensures { λ r. ⌜ United (now (parent .entry)) (now (bound .entry)) (now (parent .exit)) (now (bound .exit)) x y r ⌝ }
+{
+    let a = root(parent, x);
+    let b = root(parent, y);
+    if a == b {
+        return true;
+    }
+    if a < b {
+        join(parent, bound, a, b)
+    } else {
+        join(parent, bound, b, a)
+    }
+}
+
+// Makes the two nodes of each of the first n pairs one. False: two constants met.
+pub fn unite_all(
+    parent: &mut [u16; 327],
+    bound: &mut [u8; 327],
+    left: &[u16; 704],
+    right: &[u16; 704],
+    n: usize,
+) -> bool
+    requires { ⌜ Classes (now parent) (now bound) ⌝ ∗ ⌜ Pairs (now left) (now right) n ⌝ }
+    ensures { λ r. ⌜ UnitedAll (now (parent .entry)) (now (bound .entry)) (now (parent .exit)) (now (bound .exit)) (now (left .entry)) (now (right .entry)) n r ⌝ }
+{
+    let mut i: usize = 0;
+    while i < n {
+        if !unite(parent, bound, left[i] as usize, right[i] as usize) {
+            return false;
+        }
+        i += 1;
+    }
+    true
+}
+
+// Lowers the bound of a node's class to what `most` allows.
+pub fn restrict(parent: &[u16; 327], bound: &mut [u8; 327], x: usize, most: u8)
+    requires { ⌜ Classes (now parent) (now bound) ⌝ ∗ ⌜ (x < 327) × (most < 7) ⌝ }
+    ensures { λ _. ⌜ Restricted (now (parent .entry)) (now (bound .entry)) (now (bound .exit)) x most ⌝ }
+{
+    let r = forest::find(parent, x);
+    bound[r] = scheme::meet(bound[r], most);
+}
+
+// Whether every constant is at or below its bound.
+pub fn within_bounds(bound: &[u8; 327]) -> bool
+    requires { ⌜ (length (now bound) ≡ 327) × ((x : ℕ) → x < 327 → boundAt (now bound) x < 7) ⌝ }
+    ensures { λ r. ⌜ Tested (now (bound .entry)) r ⌝ }
+{
+    let mut c: u8 = 0;
+    while c < 7 {
+        if !scheme::at_or_below(c, bound[c as usize]) {
+            return false;
+        }
+        c += 1;
+    }
+    true
+}
+
+// Puts into each node's bound the greatest qualifier that a reading gives it, from below: a parent is settled before its node.
+pub fn settle(parent: &[u16; 327], bound: &mut [u8; 327])
+    requires { ⌜ Classes (now parent) (now bound) ⌝ ∗ ⌜ ((c : ℕ) → c < 7 → atOrBelow c (boundAt (now bound) c) ≡ true) ⌝ }
+    ensures { λ _. ⌜ Greatest (now (parent .entry)) (now (bound .entry)) (boundAt (now (bound .exit))) ⌝ }
+{
+    let mut x: usize = 0;
+    while x < 327 {
+        if x < 7 {
+            bound[x] = x as u8;
+            x += 1;
+        } else {
+            let above = parent[x] as usize;
+            bound[x] = bound[above];
+            x += 1;
+        }
+    }
+}

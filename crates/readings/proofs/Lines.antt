@@ -1,0 +1,71 @@
+-- The lines T and P alone have a typing: a type row names only rows below it.
+use Prim.Native.Nat.{ℕ, zero, suc, _<_, _≤_}
+use native.Mathlib.Omega.{arith}
+use mathlib.Core.Bool.{Bool, true, false, cond}
+use mathlib.Core.Path.{_≡_, refl, sym, ap, _∙_}
+use lib.Dec.{ltb}
+use lib.ListN.{length}
+use borrow.Author.Tests.{lt-ltb}
+use Rattle.model.specs.Machine.{Machine, typeAt, paramAt}
+use Rattle.model.specs.WellFormed.{WellFormed, TypeStands}
+use Rattle.model.specs.Typing.{Ty, int, arrow, Typable, TypeAgrees}
+use Rattle.model.specs.Strength.{whole, six}
+use Rattle.model.specs.declared.TypeForm.{TypeForm}
+use Rattle.model.specs.declared.TypeForm.the-variants.{Int, Any, Arrow}
+use Rattle.readings.specs.Nodes.{assignment, free, Meets}
+use Rattle.readings.proofs.Rows.{meaning-node}
+use Rattle.readings.proofs.Strengths.{some-whole}
+
+-- The type of a form, from the types of the rows that it names; INT for an unknown one.
+formType : (ℕ → ℕ) → (ℕ → Ty ℕ) → TypeForm → Ty ℕ
+formType v t Int = int
+formType v t Any = int
+formType v t (Arrow q a q′ b) = arrow (v q) (t a) (v q′) (t b)
+
+-- The type of a row, where fuel is above its number.
+rowType : Machine → (ℕ → ℕ) → ℕ → ℕ → Ty ℕ
+rowType m v zero x = int
+rowType m v (suc fuel) x = formType v (rowType m v fuel) (typeAt m x)
+
+form-same : (v : ℕ → ℕ) (t t′ : ℕ → Ty ℕ) (x : ℕ) (form : TypeForm) → TypeStands x form → ((y : ℕ) → y < x → t y ≡ t′ y) → formType v t form ≡ formType v t′ form
+unfolding formType
+form-same v t t′ x Int st e = refl
+form-same v t t′ x Any st e = refl
+form-same v t t′ x (Arrow q a q′ b) st e = cc (e a (st .1), e b (st .3))
+
+module _ (m : Machine) (wf : WellFormed m) (v : ℕ → ℕ) where
+  stable : (f g x : ℕ) → x < f → x < g → x < length (m .types) → rowType m v f x ≡ rowType m v g x
+  unfolding rowType
+  stable zero g x h l in-list = let z : ⊥ = omega arith in absurd z
+  stable (suc f) zero x h l in-list = let z : ⊥ = omega arith in absurd z
+  stable (suc f) (suc g) x h l in-list =
+      form-same v (rowType m v f) (rowType m v g) x (typeAt m x) (wf .types-stand x in-list)
+      (λ y below. stable f g y (omega arith) (omega arith) (omega arith))
+
+  type : ℕ → Ty ℕ
+  type x = rowType m v (suc x) x
+
+  agrees : (x : ℕ) (form : TypeForm) → TypeStands x form → x < length (m .types) → TypeAgrees (free v) (assignment m type v) form (formType v (rowType m v x) form)
+  unfolding formType type
+  agrees x Int st h = refl
+  agrees x Any st h = tt
+  agrees x (Arrow q a q′ b) st h =
+      cc (meaning-node m type v q, meaning-node m type v q′, stable x (suc a) a (st .1) (omega arith) (omega (arith, st .1)), stable x (suc b) b (st .3) (omega arith) (omega (arith, st .3)))
+
+  lines-meet : Meets m 0 type v
+  unfolding type rowType
+  lines-meet =
+      record {
+        types-agree = λ x h. agrees x (typeAt m x) (wf .types-stand x h) h;
+        params-agree = λ p h. (sym (meaning-node m type v (paramAt m p .qualifier)), refl);
+        rows-meet = λ i below h. let z : ⊥ = omega arith in absurd z;
+      }
+
+-- Each constant has its own code, and every variable PLAIN.
+plain : ℕ → ℕ
+plain x = cond (ltb x 7) x 0
+
+pub lines-typable : (m : Machine) → WellFormed m → Typable (whole six) m 0
+unfolding plain
+lines-typable m wf =
+    some-whole m wf 0 (type m wf plain) plain (λ c h. rw (lt-ltb c 7 h)) (lines-meet m wf plain) (λ i below h. let z : ⊥ = omega arith in absurd z)

@@ -1,0 +1,74 @@
+-- Typings over the seven qualifiers and typings over numbers are the same thing.
+use Prim.Native.Nat.{ℕ, suc, _-_, _<_, _≤_}
+use native.Mathlib.Omega.{arith}
+use native.Mathlib.Decide.{decLt}
+use mathlib.Core.Bool.{true, false, false≢true}
+use mathlib.Core.List.{List, [], _∷_}
+use mathlib.Core.Path.{_≡_, refl, sym, ap, subst, _∙_}
+use lib.Dec.{eqb}
+use borrow.Author.Tests.{ne-eqb}
+use Rattle.scheme.specs.Qualifier.{Qualifier, code, qualifier}
+use Rattle.scheme.specs.Order.{above, climbs, atOrBelow}
+use Rattle.scheme.specs.Operation.{highestOf}
+use Rattle.scheme.proofs.Qualifier.{qualifier-code, code-qualifier}
+use Rattle.scheme.proofs.Operation.{highest-code}
+use Rattle.model.specs.Typing.{Rules}
+use Rattle.model.specs.Strength.{whole, unordered, erased, six}
+use Rattle.model.proofs.Weaker.{Weakening}
+
+-- Nothing is above a number that is no code.
+above-past : (n : ℕ) → above (suc (suc (suc (suc (suc (suc n)))))) ≡ []
+above-past n = refl
+
+above-none : (a : ℕ) → 6 ≤ a → above a ≡ []
+above-none a h =
+    let e : suc (suc (suc (suc (suc (suc (a - 6)))))) ≡ a = omega arith in
+    subst (λ (n : ℕ). above n ≡ []) e (above-past (a - 6))
+
+-- What is at or below a code is a code.
+pub below-code : (a b : ℕ) → b < 7 → atOrBelow a b ≡ true → a < 7
+unfolding atOrBelow
+below-code a b h e = go (decLt a 7)
+  where
+    go : Dec (a < 7) → a < 7
+    go (yes low) = low
+    go (no high) =
+        let none : above a ≡ [] = above-none a (omega arith) in
+        let apart : eqb a b ≡ false = ne-eqb a b (λ same. omega arith) in
+        let z : false ≡ true = rw (apart, none) at e in
+        absurd (false≢true z)
+
+-- The whole rules, those without "at or below", and those with one qualifier only, over numbers.
+abbrev pub numbered : Rules
+numbered = record { Q = ℕ; words = 7; word = λ c. code (qualifier c); Fits = λ o q. atOrBelow q (highestOf o) ≡ true }
+
+abbrev pub loose : Rules
+loose = record { Q = ℕ; words = 7; word = λ c. code (qualifier c); Fits = λ o q. Unit {0} }
+
+abbrev pub blind : Rules
+blind = record { Q = ℕ; words = 7; word = λ c. 0; Fits = λ o q. Unit {0} }
+
+abbrev pub whole-numbered : Weakening (whole six) numbered
+whole-numbered =
+    record { image = code; same-words = refl; same-word = λ c. refl; fits = λ o q h. rw (code-qualifier (highestOf o) (highest-code o)) at h }
+
+abbrev pub numbered-whole : Weakening numbered (whole six)
+numbered-whole =
+    record {
+      image = qualifier;
+      same-words = refl;
+      same-word = λ c. qualifier-code (qualifier c);
+      fits = λ o q h. rw (code-qualifier (highestOf o) (highest-code o), code-qualifier q (below-code q (highestOf o) (highest-code o) h)) h;
+    }
+
+abbrev pub unordered-loose : Weakening (unordered six) loose
+unordered-loose = record { image = code; same-words = refl; same-word = λ c. refl; fits = λ o q h. tt }
+
+abbrev pub loose-unordered : Weakening loose (unordered six)
+loose-unordered = record { image = qualifier; same-words = refl; same-word = λ c. qualifier-code (qualifier c); fits = λ o q h. tt }
+
+abbrev pub erased-blind : Weakening (erased six) blind
+erased-blind = record { image = λ q. 0; same-words = refl; same-word = λ c. refl; fits = λ o q h. tt }
+
+abbrev pub blind-erased : Weakening blind (erased six)
+blind-erased = record { image = λ q. tt; same-words = refl; same-word = λ c. refl; fits = λ o q h. tt }

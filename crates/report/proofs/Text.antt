@@ -1,0 +1,65 @@
+-- The text that `write` writes, from the codes alone, is the report of every machine that they match.
+use Prim.Native.Nat.{ℕ, zero, suc, _+_, _<_}
+use native.Mathlib.Omega.{arith}
+use mathlib.Core.List.{List, _++_}
+use mathlib.Core.Path.{_≡_, refl, _∙_}
+use lib.ListN.{length}
+use lib.Seq.{sets-eq}
+use Rattle.model.specs.Machine.{Machine}
+use Rattle.model.specs.Report.{lines, variableLine, paramLine, rowLine, report}
+use Rattle.report.specs.Codes.{Codes, wordOf, shapeOf}
+use Rattle.report.specs.Writing.{Room, Wrote, countsText, variableText, slotText, variableAt, slotAt}
+use Rattle.report.specs.Written.{Matches, reportOf, Written}
+use Rattle.report.proofs.Writing.{room-first, room-rest, wrote-both}
+
+unfoldable pub text : Codes → ℕ → ℕ → List ℕ
+text c params rows =
+    countsText params rows
+    ++ lines (variableAt (c .variables)) 0 64
+    ++ lines (slotAt 80 (c .paramWords) (c .paramShapes)) 0 params
+    ++ lines (slotAt 69 (c .rowWords) (c .rowShapes)) 0 rows
+
+lines-same : (f g : ℕ → List ℕ) (i n : ℕ) → ((k : ℕ) → k < i + n → f k ≡ g k) → lines f i n ≡ lines g i n
+unfolding lines
+lines-same f g i zero h = refl
+lines-same f g i (suc n) h = rw (h i (omega arith), lines-same f g (i + 1) n (λ k b. h k (omega arith)))
+
+module _ (c : Codes) (params rows : ℕ) (m : Machine) (matched : Matches m c params rows) where
+  variable-same : (k : ℕ) → k < 64 → variableLine m (wordOf c) (shapeOf c) k ≡ variableAt (c .variables) k
+  unfolding variableLine variableText
+  variable-same k h = rw (matched .listed k h)
+
+  pub is-report : reportOf m c ≡ text c params rows
+  unfolding report text countsText paramLine rowLine slotText
+  is-report = rw (matched .params-counted, matched .rows-counted, lines-same _ _ 0 64 variable-same)
+
+-- The four parts of the text in turn: each has room once those before it are written, and with the last of them the report is written.
+module _ (c : Codes) (params rows : ℕ) {l : List ℕ} (room : Room l 0 (text c params rows)) where
+  pub counts-room : Room l 0 (countsText params rows)
+  unfolding text
+  counts-room = room-first _ (room-first _ (room-first _ room))
+
+  module _ {l₁ : List ℕ} {i₁ : ℕ} (counts : Wrote l 0 (countsText params rows) l₁ i₁) where
+    pub variables-room : Room l₁ i₁ (lines (variableAt (c .variables)) 0 64)
+    unfolding text
+    variables-room = room-rest _ (room-first _ (room-first _ room)) counts
+
+    module _ {l₂ : List ℕ} {i₂ : ℕ} (variables : Wrote l₁ i₁ (lines (variableAt (c .variables)) 0 64) l₂ i₂) where
+      pub params-room : Room l₂ i₂ (lines (slotAt 80 (c .paramWords) (c .paramShapes)) 0 params)
+      unfolding text
+      params-room = room-rest _ (room-first _ room) (wrote-both counts variables)
+
+      module _ {l₃ : List ℕ} {i₃ : ℕ} (slots : Wrote l₂ i₂ (lines (slotAt 80 (c .paramWords) (c .paramShapes)) 0 params) l₃ i₃) where
+        pub rows-room : Room l₃ i₃ (lines (slotAt 69 (c .rowWords) (c .rowShapes)) 0 rows)
+        unfolding text
+        rows-room = room-rest _ room (wrote-both (wrote-both counts variables) slots)
+
+        pub written : {l₄ : List ℕ} {i₄ : ℕ} → Wrote l₃ i₃ (lines (slotAt 69 (c .rowWords) (c .rowShapes)) 0 rows) l₄ i₄ → Written c params rows l l₄ i₄
+        unfolding text
+        written {l₄} {i₄} last =
+            let start : 0 + length (text c params rows) ≡ length (text c params rows) = omega arith in
+            let whole : Wrote l 0 (text c params rows) l₄ i₄ = wrote-both (wrote-both (wrote-both counts variables) slots) last in
+            record {
+              buffer = λ m matched. rw (is-report c params rows m matched) (whole .bytes ∙ sets-eq (text c params rows) l 0 (room .fits) ∙ rw start);
+              size = λ m matched. rw (is-report c params rows m matched) (whole .end ∙ start);
+            }

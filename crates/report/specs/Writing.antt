@@ -1,0 +1,46 @@
+-- What each function of the writer leaves in the buffer.
+use Prim.Native.Nat.{ℕ, _+_, _≤_}
+use mathlib.Core.Bool.{cond}
+use mathlib.Core.List.{List, [], _∷_}
+use mathlib.Core.Path.{_≡_}
+use lib.Dec.{ltb}
+use lib.ListN.{length, getD, take}
+use lib.Seq.{sets}
+use Rattle.model.specs.Lists.{bytes}
+use Rattle.model.specs.Number.{decimal}
+use Rattle.model.specs.Word.{qualifierWord}
+use Rattle.model.specs.Report.{line, shapeWord}
+use Rattle.report.specs.Codes.{shapeOfCode}
+
+-- The buffer l has room for the text w at i.
+pub record Room (l : List ℕ) (i : ℕ) (w : List ℕ) : Type 0 where
+  pub fits : i + length w ≤ length l
+
+-- The text w is written at i: the buffer l is l′ after it, and the next place is i′.
+pub record Wrote (l : List ℕ) (i : ℕ) (w l′ : List ℕ) (i′ : ℕ) : Type 0 where
+  pub bytes : l′ ≡ sets l i w
+  pub end : i′ ≡ i + length w
+
+-- The first bytes of an array are the word.
+pub record Spells (array : List ℕ) (size : ℕ) (word : List ℕ) : Type 0 where
+  pub bytes : take size array ≡ word
+  pub room : size ≤ length array
+
+-- `OK,parameters,rows`
+unfoldable pub countsText : ℕ → ℕ → List ℕ
+countsText params rows = line (bytes "OK" ∷ decimal params ∷ decimal rows ∷ [])
+
+-- `G,k,word`, or nothing where the code is no word's
+unfoldable pub variableText : ℕ → ℕ → List ℕ
+variableText k code = cond (ltb code 7) (line (bytes "G" ∷ decimal k ∷ qualifierWord code ∷ [])) []
+
+-- `P,p,word,shape` or `E,i,word,shape`
+unfoldable pub slotText : ℕ → ℕ → ℕ → ℕ → List ℕ
+slotText tag i code shape = line ((tag ∷ []) ∷ decimal i ∷ qualifierWord code ∷ shapeWord (shapeOfCode shape) ∷ [])
+
+-- The same, with the codes from lists.
+abbrev pub variableAt : List ℕ → ℕ → List ℕ
+variableAt variables k = variableText k (getD variables k 7)
+
+abbrev pub slotAt : ℕ → List ℕ → List ℕ → ℕ → List ℕ
+slotAt tag words shapes i = slotText tag i (getD words i 0) (getD shapes i 0)

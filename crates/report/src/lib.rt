@@ -1,0 +1,199 @@
+// Writes the report of a typed program into a lent buffer, from the codes of its words and shapes.
+ghost use mathlib.Core.List.{[], _∷_, _++_};
+ghost use Prim.Native.Nat.{_+_, _≤_, _<_};
+ghost use lib.ListN.{length, take};
+ghost use Rattle.model.specs.Number.{decimal};
+ghost use Rattle.model.specs.Word.{qualifierWord};
+ghost use Rattle.model.specs.Report.{lines, shapeWord};
+ghost use Rattle.report.specs.Codes.{shapeOfCode, codesOf};
+ghost use Rattle.report.specs.Writing.{Room, Wrote, Spells, countsText, variableText, slotText, variableAt, slotAt};
+ghost use Rattle.report.specs.Written.{Written};
+
+// A word of the report: bytes that begin with it, and how many of them it has.
+struct Word([u8; 5], usize);
+
+// A qualifier's word: no bytes past the seven codes.
+fn qualifier_word(code: u8) -> Word
+    ensures { λ r. ⌜ Spells (r .0) (r .1) (qualifierWord code) ⌝ }
+{
+    match code {
+        0 => Word(*b"PLAIN", 5),
+        1 => Word(*b"FHE  ", 3),
+        2 => Word(*b"OP   ", 2),
+        3 => Word(*b"DET  ", 3),
+        4 => Word(*b"MH   ", 2),
+        5 => Word(*b"AH   ", 2),
+        6 => Word(*b"RAND ", 4),
+        _ => Word(*b"     ", 0),
+    }
+}
+
+// A shape's word: ANY for every code but two.
+fn shape_word(code: u8) -> Word
+    ensures { λ r. ⌜ Spells (r .0) (r .1) (shapeWord (shapeOfCode code)) ⌝ }
+{
+    match code {
+        0 => Word(*b"INT  ", 3),
+        1 => Word(*b"ARROW", 5),
+        _ => Word(*b"ANY  ", 3),
+    }
+}
+
+// Writes a field and the byte that ends it.
+fn write_field(buffer: &mut [u8], at: usize, text: &[u8], end: u8) -> usize
+    requires { ⌜ Room (now buffer) at (now text ++ (end ∷ [])) ⌝ }
+    ensures { λ r. ⌜ Wrote (now (buffer .entry)) at (now (text .entry) ++ (end ∷ [])) (now (buffer .exit)) r ⌝ }
+{
+    let mut i = 0;
+    while i < text.len() {
+        buffer[at + i] = text[i];
+        i += 1;
+    }
+    buffer[at + i] = end;
+    at + i + 1
+}
+
+// Writes the digits of a number: those of its tenth part first.
+fn write_digits(buffer: &mut [u8], at: usize, n: usize) -> usize
+    requires { ⌜ Room (now buffer) at (decimal n) ⌝ }
+    ensures { λ r. ⌜ Wrote (now (buffer .entry)) at (decimal n) (now (buffer .exit)) r ⌝ }
+{
+    if n < 10 {
+        buffer[at] = b'0' + n as u8;
+        return at + 1;
+    }
+    let last = write_digits(buffer, at, n / 10);
+    buffer[last] = b'0' + (n % 10) as u8;
+    last + 1
+}
+
+// Writes a number and the byte that ends its field.
+fn write_number(buffer: &mut [u8], at: usize, n: usize, end: u8) -> usize
+    requires { ⌜ Room (now buffer) at (decimal n ++ (end ∷ [])) ⌝ }
+    ensures { λ r. ⌜ Wrote (now (buffer .entry)) at (decimal n ++ (end ∷ [])) (now (buffer .exit)) r ⌝ }
+{
+    let last = write_digits(buffer, at, n);
+    buffer[last] = end;
+    last + 1
+}
+
+// Writes a word and the byte that ends its field.
+fn write_word(buffer: &mut [u8], at: usize, word: Word, end: u8) -> usize
+    requires { ⌜ (word .1 ≤ length (word .0)) × Room (now buffer) at (take (word .1) (word .0) ++ (end ∷ [])) ⌝ }
+    ensures { λ r. ⌜ Wrote (now (buffer .entry)) at (take (word .1) (word .0) ++ (end ∷ [])) (now (buffer .exit)) r ⌝ }
+{
+    let bytes = word.0;
+    let size = word.1;
+    write_field(buffer, at, &bytes[..size], end)
+}
+
+// Writes the word of a qualifier's code and the byte that ends its field.
+fn write_qualifier(buffer: &mut [u8], at: usize, code: u8, end: u8) -> usize
+    requires { ⌜ Room (now buffer) at (qualifierWord code ++ (end ∷ [])) ⌝ }
+    ensures { λ r. ⌜ Wrote (now (buffer .entry)) at (qualifierWord code ++ (end ∷ [])) (now (buffer .exit)) r ⌝ }
+{
+    let word = qualifier_word(code);
+    write_word(buffer, at, word, end)
+}
+
+// Writes the word of a shape's code and the byte that ends its field.
+fn write_shape(buffer: &mut [u8], at: usize, code: u8, end: u8) -> usize
+    requires { ⌜ Room (now buffer) at (shapeWord (shapeOfCode code) ++ (end ∷ [])) ⌝ }
+    ensures { λ r. ⌜ Wrote (now (buffer .entry)) at (shapeWord (shapeOfCode code) ++ (end ∷ [])) (now (buffer .exit)) r ⌝ }
+{
+    let word = shape_word(code);
+    write_word(buffer, at, word, end)
+}
+
+// Writes `OK,parameters,rows`.
+fn write_counts(buffer: &mut [u8], at: usize, params: usize, rows: usize) -> usize
+    requires { ⌜ Room (now buffer) at (countsText params rows) ⌝ }
+    ensures { λ r. ⌜ Wrote (now (buffer .entry)) at (countsText params rows) (now (buffer .exit)) r ⌝ }
+{
+    let first = write_field(buffer, at, b"OK", b',');
+    let second = write_number(buffer, first, params, b',');
+    write_number(buffer, second, rows, b'\n')
+}
+
+// Writes the line of a variable whose code is a word's.
+fn write_variable(buffer: &mut [u8], at: usize, k: usize, code: u8) -> usize
+    requires { ⌜ Room (now buffer) at (variableText k code) ⌝ }
+    ensures { λ r. ⌜ Wrote (now (buffer .entry)) at (variableText k code) (now (buffer .exit)) r ⌝ }
+{
+    if code < 7 {
+        let number = write_field(buffer, at, b"G", b',');
+        let word = write_number(buffer, number, k, b',');
+        return write_qualifier(buffer, word, code, b'\n');
+    }
+    at
+}
+
+// Writes the line of a parameter or a row.
+fn write_slot(buffer: &mut [u8], at: usize, tag: u8, i: usize, code: u8, shape: u8) -> usize
+    requires { ⌜ Room (now buffer) at (slotText tag i code shape) ⌝ }
+    ensures { λ r. ⌜ Wrote (now (buffer .entry)) at (slotText tag i code shape) (now (buffer .exit)) r ⌝ }
+{
+    let letter = [tag];
+    let number = write_field(buffer, at, &letter, b',');
+    let word = write_number(buffer, number, i, b',');
+    let last = write_qualifier(buffer, word, code, b',');
+    write_shape(buffer, last, shape, b'\n')
+}
+
+// Writes the lines of the variables, rising.
+fn write_variables(buffer: &mut [u8], at: usize, variables: &[u8]) -> usize
+    requires { ⌜ (64 ≤ length (now variables)) × Room (now buffer) at (lines (variableAt (now variables)) 0 64) ⌝ }
+    ensures { λ r. ⌜ Wrote (now (buffer .entry)) at (lines (variableAt (now (variables .entry))) 0 64) (now (buffer .exit)) r ⌝ }
+{
+    let mut next = at;
+    let mut k = 0;
+    while k < 64 {
+        next = write_variable(buffer, next, k, variables[k]);
+        k += 1;
+    }
+    next
+}
+
+// Writes the lines of the first parameters or rows.
+fn write_slots(
+    buffer: &mut [u8],
+    at: usize,
+    tag: u8,
+    words: &[u8],
+    shapes: &[u8],
+    count: usize,
+) -> usize
+    requires { ⌜ (count ≤ length (now words)) × (count ≤ length (now shapes)) × Room (now buffer) at (lines (slotAt tag (now words) (now shapes)) 0 count) ⌝ }
+    ensures { λ r. ⌜ Wrote (now (buffer .entry)) at (lines (slotAt tag (now (words .entry)) (now (shapes .entry))) 0 count) (now (buffer .exit)) r ⌝ }
+{
+    let mut next = at;
+    let mut i = 0;
+    while i < count {
+        next = write_slot(buffer, next, tag, i, words[i], shapes[i]);
+        i += 1;
+    }
+    next
+}
+
+// Writes the report of any machine that the codes and the counts match, and returns its length. Any codes will do: a variable is listed where
+// its code is below 7.
+pub fn write(
+    buffer: &mut [u8],
+    variables: &[u8; 64],
+    param_words: &[u8; 64],
+    param_shapes: &[u8; 64],
+    row_words: &[u8; 256],
+    row_shapes: &[u8; 256],
+    params: usize,
+    rows: usize,
+) -> usize
+    requires { ⌜ (params ≤ 64) × (rows ≤ 256) × (6280 ≤ length (now buffer)) ⌝ }
+    ensures { λ r. ⌜ Written
+        (codesOf (now (variables .entry)) (now («param_words» .entry)) (now («param_shapes» .entry)) (now («row_words» .entry)) (now («row_shapes» .entry)))
+        params rows (now (buffer .entry)) (now (buffer .exit)) r ⌝ }
+{
+    let first = write_counts(buffer, 0, params, rows);
+    let second = write_variables(buffer, first, variables);
+    let third = write_slots(buffer, second, b'P', param_words, param_shapes, params);
+    write_slots(buffer, third, b'E', row_words, row_shapes, rows)
+}

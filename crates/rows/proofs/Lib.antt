@@ -1,0 +1,5 @@
+pub mod Joining
+pub mod Rows
+pub mod Operations
+pub mod Bounds
+pub mod Steps

@@ -1,0 +1,69 @@
+-- `setup::describe_terms`: the descriptors of the rows below i are written.
+use mathlib.Core.Path.{_≡_}
+use Prim.Native.Nat.{_-_, _≤_}
+use native.Mathlib.Omega.{arith}
+use borrow.Author.Count.{below-none}
+use Rattle.graph.specs.Types.{Parts}
+use Rattle.setup.specs.Passes.{FormsKept, TermsDescribed}
+use Rattle.setup.proofs.Descriptors.{terms-more, forms-kept-none, forms-kept-more}
+use Rattle.setup.proofs.describe_terms.Statement.{statement}
+use Rattle.setup.proofs.describe_terms.Tie as tie
+
+abbrev Inv-loop : tie.InvT-loop
+Inv-loop params count kids₀ terms i₀ kids i =
+    (i ≤ count) × Parts kids × FormsKept kids₀ kids × TermsDescribed params terms i kids
+
+abbrev μ-loop : tie.MeasureT-loop
+μ-loop params count kids₀ terms i₀ kids i = count - i
+
+loop-holds : tie.Need-loop-holds Inv-loop μ-loop
+loop-holds c = (omega arith, c .pre .0, forms-kept-none (c .args .kids .now), below-none _)
+
+mul-row : tie.Need-mul-row Inv-loop μ-loop
+mul-row c = omega arith
+
+array-copy-out-row : tie.Need-array-copy-out-row Inv-loop μ-loop
+array-copy-out-row c = omega arith
+
+describe-term-requires : tie.Need-describe-term-requires Inv-loop μ-loop
+describe-term-requires c κs =
+    let head = c .before .before .before in
+    (head .loop .inv .1, (omega arith, head .before .pre .1 .1 _ (c .before .before .loop-test .taken)))
+
+add-i : tie.Need-add-i Inv-loop μ-loop
+add-i c = omega arith
+
+loop-less : tie.Need-loop-less Inv-loop μ-loop
+loop-less c = omega arith
+
+loop-again : tie.Need-loop-again Inv-loop μ-loop
+loop-again c =
+    let head = c .before .before .before .before in
+    let args = head .before .args in
+    let only = c .describe-term .ensures .0 in (
+      omega arith,
+      only .parts,
+      forms-kept-more (args .kids .now) _ _ _ (head .loop .inv .2) only,
+      terms-more (args .params) (args .t2) _ _ _ only (c .describe-term .ensures .1) (head .loop .inv .3),
+    )
+
+returns : tie.Need-returns Inv-loop μ-loop
+returns c =
+    let head = c .before in
+    let e : head .loop .i ≡ head .before .args .count = omega arith in
+    (head .loop .inv .1, head .loop .inv .2, rw e at (head .loop .inv .3))
+
+pub describe-terms-spec : {M : Type 1} → statement M
+describe-terms-spec =
+    tie.close
+    (tie.spec
+    Inv-loop
+    μ-loop
+    loop-holds
+    mul-row
+    array-copy-out-row
+    describe-term-requires
+    add-i
+    loop-less
+    loop-again
+    returns)

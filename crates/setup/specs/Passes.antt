@@ -1,0 +1,81 @@
+-- What each pass over the rows asks and leaves.
+use Prim.Native.Nat.{ℕ, _<_}
+use mathlib.Core.Bool.{cond}
+use mathlib.Core.List.{List}
+use mathlib.Core.Path.{_≡_}
+use lib.Dec.{ltb}
+use lib.ListN.{length, getD}
+use Rattle.model.specs.WellFormed.{TypeStands, ParamStands}
+use Rattle.model.specs.declared.TypeForm.{TypeForm}
+use Rattle.model.specs.declared.TypeForm.the-variants.{Int, Any, Arrow}
+use Rattle.model.specs.declared.TypeRow.{TypeRow}
+use Rattle.model.specs.declared.Param.{Param}
+use Rattle.model.specs.declared.TermRow.{TermRow}
+use Rattle.model.specs.declared.Term.{Term}
+use Rattle.model.specs.declared.Term.the-variants.{Lam, App, Op, Var, Num, Enc}
+use Rattle.forest.specs.Forest.{up}
+use Rattle.graph.specs.Types.{partAt, kindAt, Parts}
+use Rattle.readings.specs.Nodes.{parameterOf}
+use Rattle.setup.specs.Descriptors.{HasParts, Describes}
+use Rattle.setup.specs.Started.{formKind}
+
+-- The entries of the arrays, with the same row past the end as in a machine.
+abbrev pub formIn : List TypeRow → ℕ → TypeForm
+formIn types x = getD types x (record { form = Int }) .form
+
+abbrev pub paramIn : List Param → ℕ → Param
+paramIn params p = getD params p (record { qualifier = 0; typerow = 0 })
+
+abbrev pub termIn : List TermRow → ℕ → Term
+termIn terms i = getD terms i (record { term = Lam 0 0 }) .term
+
+-- Descriptor x is the arrow that type row x is.
+abbrev pub DescribesForm : List ℕ → ℕ → TypeForm → Type 0
+DescribesForm kids x Int = Unit {0}
+DescribesForm kids x Any = Unit {0}
+DescribesForm kids x (Arrow q a q′ b) = HasParts kids x q a q′ b
+
+abbrev pub DescribesTerm : List ℕ → List Param → ℕ → Term → Type 0
+DescribesTerm kids params i term =
+    Describes kids i term (paramIn params (parameterOf term) .qualifier) (paramIn params (parameterOf term) .typerow)
+
+-- What makes the parts of a term row's descriptor nodes: a LAM and an APP name rows below their own, and a LAM a parameter that stands.
+abbrev pub HasNodes : List Param → ℕ → Term → Type 0
+HasNodes params i (Lam p b) = (p < 64) × (b < i) × ParamStands 64 (paramIn params p)
+HasNodes params i (App f a) = (f < i) × (a < i)
+HasNodes params i (Op o l r) = Unit {0}
+HasNodes params i (Var p) = Unit {0}
+HasNodes params i (Num n) = Unit {0}
+HasNodes params i (Enc s n) = Unit {0}
+
+abbrev pub FormsStand : List TypeRow → ℕ → Type 0
+FormsStand types count = (x : ℕ) → x < count → TypeStands x (formIn types x)
+
+abbrev pub TermsHaveNodes : List Param → List TermRow → ℕ → Type 0
+TermsHaveNodes params terms count = (i : ℕ) → i < count → HasNodes params i (termIn terms i)
+
+-- No descriptor but d has changed.
+pub record Only (d : ℕ) (kids kids′ : List ℕ) : Type 0 where
+  pub parts : Parts kids′
+  pub others : (e j : ℕ) → (e ≡ d → ⊥) → j < 4 → partAt kids′ e j ≡ partAt kids e j
+
+-- The descriptors of the first type rows, and of the first term rows.
+abbrev pub FormsDescribed : List TypeRow → ℕ → List ℕ → Type 0
+FormsDescribed types count kids = (x : ℕ) → x < count → DescribesForm kids x (formIn types x)
+
+abbrev pub TermsDescribed : List Param → List TermRow → ℕ → List ℕ → Type 0
+TermsDescribed params terms count kids = (i : ℕ) → i < count → DescribesTerm kids params i (termIn terms i)
+
+-- No descriptor of a type row has changed.
+abbrev pub FormsKept : List ℕ → List ℕ → Type 0
+FormsKept kids kids′ = (x j : ℕ) → x < 64 → j < 4 → partAt kids′ x j ≡ partAt kids x j
+
+-- Each of the first nodes is a root of its own.
+pub record SelfRooted (count : ℕ) (p : List ℕ) : Type 0 where
+  pub size : length p ≡ 327
+  pub own : (x : ℕ) → x < count → up p x ≡ x
+
+-- The first type rows have their kinds.
+pub record Kinds (types : List TypeRow) (count : ℕ) (k : List ℕ) : Type 0 where
+  pub size : length k ≡ 327
+  pub kinds : (x : ℕ) → x < 327 → kindAt k x ≡ cond (ltb x count) (formKind x (formIn types x)) 0

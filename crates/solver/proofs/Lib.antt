@@ -1,0 +1,7 @@
+pub mod Start
+pub mod Progress
+pub mod Stops
+pub mod Solving
+pub mod Exits
+pub mod Ready
+pub mod Placed

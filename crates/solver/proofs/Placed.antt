@@ -1,0 +1,55 @@
+-- A run that went through all rows, settled and filled, places the program.
+use Prim.Native.Nat.{ℕ, _<_, _≤_}
+use native.Mathlib.Omega.{arith}
+use mathlib.Core.List.{List}
+use mathlib.Core.Path.{_≡_, sym, ap, subst, _∙_}
+use lib.ListN.{length, take, length-take}
+use Rattle.model.specs.Machine.{Machine}
+use Rattle.model.specs.WellFormed.{WellFormed}
+use Rattle.model.specs.Strength.{six}
+use Rattle.model.specs.Inference.{Slot, Listed, Shape, ShapeSays, Accepted}
+use Rattle.model.specs.declared.TermRow.{TermRow}
+use Rattle.graph.specs.Types.{kindAt, Parts}
+use Rattle.qualifiers.specs.Classes.{boundAt, Greatest}
+use Rattle.occurs.specs.Kinds.{Settled}
+use Rattle.readings.proofs.Accepted.{solved-accepted}
+use Rattle.report.specs.Codes as Codes
+use Rattle.report.specs.Written.{Matches}
+use Rattle.slots.specs.Filled.{Filled}
+use Rattle.solver.specs.State.{After}
+use Rattle.solver.specs.Runs.{Ended, Refuses, Solves}
+use Rattle.solver.specs.declared.Answer.{Answer}
+use Rattle.solver.specs.declared.Answer.the-variants.{Placed, Refused}
+use Rattle.solver.proofs.Solving.{state-solved}
+
+-- What is accepted is accepted in other words for the same slots.
+pub accepted-as : (m : Machine) {word word′ : Slot → ℕ} {shape shape′ : Slot → Shape} →
+    ((x : Slot) → Listed six m x → word′ x ≡ word x) → ((x : Slot) → Listed six m x → shape′ x ≡ shape x) →
+    Accepted six m word shape → Accepted six m word′ shape′
+accepted-as m same-word same-shape a =
+    record {
+      worded = λ x l. rw (same-word x l) (a .worded x l);
+      greatest = λ s typing x l. rw (same-word x l) (a .greatest s typing x l);
+      shaped = λ x l. subst (λ (h : Shape). ShapeSays six m x h) (sym (same-shape x l)) (a .shaped x l);
+      together = (
+        a .together .0,
+        a .together .1,
+        λ x l. a .together .2 x l ∙ ap (six .word) (sym (same-word x l)),
+        λ x l any. a .together .3 x l (sym (same-shape x l) ∙ any),
+      );
+    }
+
+-- As many rows stand as the count says.
+pub counted : (terms : List TermRow) (termcount : ℕ) → length terms ≡ 256 → termcount ≤ 256 → termcount ≡ length (take termcount terms)
+counted terms termcount size few = sym (length-take termcount terms ∙ omega arith)
+
+pub placed : (m : Machine) (kids u k p b b′ k′ : List ℕ) (rows : ℕ) (codes : Codes.Codes) → WellFormed m → Parts kids → rows ≡ length (m .terms) →
+    Ended m kids u k p b rows → Greatest p b (boundAt b′) → Settled u k k′ → Filled m (boundAt b′) (kindAt k′) codes → Solves m codes Placed
+placed m kids u k p b b′ k′ rows codes wf parts whole ended g settled filled =
+    let solved =
+    state-solved m kids u k p b k′ (boundAt b′) parts (subst (λ (n : ℕ). After m kids u k p b n) whole (ended .after)) (ended .finite) g settled in
+    (accepted-as m (filled .words) (filled .shapes) (solved-accepted m wf (boundAt b′) (kindAt k′) solved), filled .matches)
+
+pub refused : (m : Machine) (codes : Codes.Codes) (r : Answer) → Refuses m r → Solves m codes r
+refused m codes Placed none = absurd none
+refused m codes (Refused number row) refusal = refusal

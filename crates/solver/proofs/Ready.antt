@@ -1,0 +1,98 @@
+-- The arrays of a well-formed machine are ready for a run.
+use Prim.Native.Nat.{ℕ, _+_, _<_, _≤_}
+use native.Mathlib.Omega.{arith}
+use native.Mathlib.Decide.{decLt}
+use mathlib.Core.List.{List}
+use mathlib.Core.Path.{_≡_, refl, sym, ap, subst, subst₂, _∙_}
+use lib.ListN.{length, getD, take, length-take, List·getD-eq-default}
+use lib.Seq.{getD-take}
+use Rattle.model.specs.Machine.{Machine, paramAt, termAt}
+use Rattle.model.specs.WellFormed.{WellFormed, TermStands}
+use Rattle.model.specs.Typing.{Typable}
+use Rattle.model.specs.Strength.{whole, six}
+use Rattle.model.specs.Inference.{Refusal}
+use Rattle.model.proofs.Fewer.{typable-fewer}
+use Rattle.model.specs.declared.TypeRow.{TypeRow}
+use Rattle.model.specs.declared.Param.{Param}
+use Rattle.model.specs.declared.Term.{Term}
+use Rattle.model.specs.declared.Term.the-variants.{Lam, App, Op, Var, Num, Enc}
+use Rattle.model.specs.declared.TermRow.{TermRow}
+use Rattle.readings.specs.Nodes.{parameterOf}
+use Rattle.readings.proofs.Lines.{lines-typable}
+use Rattle.setup.specs.Descriptors.{machineOf, Describes, Described, rowQualifier, rowTyperow}
+use Rattle.rows.specs.Rows.{RowStands}
+use Rattle.solver.specs.Runs.{termIn, Fails, RowsOf, RowReady, Ran}
+use Rattle.solver.specs.declared.Run.the-variants.{Whole}
+
+-- No rows at all: the lines alone have a typing.
+pub run-none : (m : Machine) (kids u k p b : List ℕ) (rows : ℕ) → WellFormed m → rows ≡ 0 → Ran m kids u k p b rows Whole
+run-none m kids u k p b rows wf e = (subst (λ (n : ℕ). Typable (whole six) m n) (sym e) (lines-typable m wf), λ some. absurd (some e))
+
+-- The first rows of the arrays are the machine's.
+pub rows-of : (types : List TypeRow) (typecount : ℕ) (params : List Param) (paramcount : ℕ) (terms : List TermRow) (termcount rows : ℕ) →
+    WellFormed (machineOf types typecount params paramcount terms termcount) → length terms ≡ 256 → termcount ≤ 256 → rows ≤ termcount →
+    RowsOf (machineOf types typecount params paramcount terms termcount) params paramcount terms rows
+rows-of types typecount params paramcount terms termcount rows wf size few most =
+    record {
+      well-formed = wf;
+      same-params = refl;
+      same-term = λ i below. (
+        rw (length-take termcount terms) (omega arith),
+        ap (λ (row : TermRow). row .term) (getD-take termcount terms i (record { term = Lam 0 0 }) (omega arith)),
+      );
+    }
+
+-- Fewer parameters stand than there are places.
+stands-weaker : (n i : ℕ) (term : Term) → n ≤ 64 → TermStands n i term → TermStands 64 i term
+stands-weaker n i (Lam p b) h st = (omega (arith, st .0), st .1)
+stands-weaker n i (App f a) h st = st
+stands-weaker n i (Op o l r) h st = st
+stands-weaker n i (Var p) h st = omega arith
+stands-weaker n i (Num x) h st = tt
+stands-weaker n i (Enc s x) h st = st
+
+module _ (m : Machine) (wf : WellFormed m) where
+  -- A parameter's nodes are nodes, also past the end of the list.
+  param-nodes : (p : ℕ) → (paramAt m p .qualifier < 71) × (paramAt m p .typerow < 64)
+  param-nodes p = go (decLt p (length (m .params)))
+    where
+      go : Dec (p < length (m .params)) → (paramAt m p .qualifier < 71) × (paramAt m p .typerow < 64)
+      go (yes h) = (omega (arith, wf .params-stand p h .0), omega (arith, wf .params-stand p h .1, wf .types-fit))
+      go (no n) =
+          let none = List·getD-eq-default (m .params) (record { qualifier = 0; typerow = 0 }) {n = p} (omega arith) in
+          (omega (arith, ap (λ (d : Param). d .qualifier) none), omega (arith, ap (λ (d : Param). d .typerow) none))
+
+  row-stands : (i : ℕ) → i < length (m .terms) → RowStands i (termAt m i) (rowQualifier m i) (rowTyperow m i)
+  row-stands i h =
+      record {
+        in-list = omega (arith, wf .terms-fit);
+        stands = stands-weaker (length (m .params)) i (termAt m i) (wf .params-fit) (wf .terms-stand i h);
+        qualifier-node = param-nodes (parameterOf (termAt m i)) .0;
+        type-node = param-nodes (parameterOf (termAt m i)) .1;
+      }
+
+  pub row-ready : (params : List Param) (count : ℕ) (terms : List TermRow) (rows : ℕ) (kids : List ℕ) → RowsOf m params count terms rows → Described m kids →
+      (i : ℕ) → i < rows → RowReady params count terms kids i
+  row-ready params count terms rows kids of described i below =
+      let in-list = of .same-term i below .0 in
+      subst₂
+      (λ (term : Term) (ps : List Param).
+      RowStands i term (getD ps (parameterOf term) (record { qualifier = 0; typerow = 0 }) .qualifier) (getD ps (parameterOf term) (record { qualifier = 0; typerow = 0 }) .typerow)
+      × Describes kids i term (getD ps (parameterOf term) (record { qualifier = 0; typerow = 0 }) .qualifier) (getD ps (parameterOf term) (record { qualifier = 0; typerow = 0 }) .typerow))
+      (of .same-term i below .1)
+      (of .same-params)
+      (row-stands i in-list, described .rows i in-list)
+
+-- A row below the count is in the machine's list.
+pub in-terms : (terms : List TermRow) (termcount row : ℕ) → length terms ≡ 256 → termcount ≤ 256 → row < termcount → row < length (take termcount terms)
+in-terms terms termcount row size few below = rw (length-take termcount terms) (omega arith)
+
+-- The rows before a failing one are typable, so it is the least.
+pub refusal-of : (m : Machine) (number row : ℕ) → row < length (m .terms) → Fails m number row → Typable (whole six) m row → Refusal six m number row
+refusal-of m number row in-list fails some =
+    record {
+      in-list = in-list;
+      before = λ j below. typable-fewer (omega arith) some;
+      none = fails .0;
+      cause = fails .1;
+    }

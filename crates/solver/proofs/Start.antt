@@ -1,0 +1,118 @@
+-- The state before any term row.
+use Prim.Native.Nat.{ℕ, _+_, _-_, _<_, _≤_}
+use native.Mathlib.Omega.{arith}
+use mathlib.Core.Bool.{Bool, true, false, cond}
+use mathlib.Core.List.{List}
+use mathlib.Core.Path.{_≡_, refl, sym, ap, subst, _∙_}
+use lib.Dec.{ltb}
+use lib.ListN.{length}
+use borrow.Author.Tests.{lt-ltb, ltb-true}
+use Rattle.scheme.proofs.Order.{rand-greatest, reflexive}
+use Rattle.model.specs.Machine.{Machine, typeAt, paramAt, termAt}
+use Rattle.model.specs.WellFormed.{WellFormed}
+use Rattle.model.specs.Typing.{Ty, int, arrow, TypeAgrees}
+use Rattle.model.specs.declared.TypeForm.{TypeForm}
+use Rattle.model.specs.declared.TypeForm.the-variants.{Int, Any, Arrow}
+use Rattle.forest.specs.Forest.{up, Forest, Linked}
+use Rattle.graph.specs.Types.{kindAt, arrowOf, TypeClasses, Reads}
+use Rattle.qualifiers.specs.Classes.{boundAt, Classes, Bounded}
+use Rattle.readings.specs.Nodes.{assignment, free, Meets, FitsAll, Coded}
+use Rattle.readings.proofs.Rows.{meaning-node}
+use Rattle.setup.specs.Descriptors.{Described}
+use Rattle.setup.specs.Started.{formKind, startKind, Started}
+use Rattle.solver.specs.State.{After}
+
+module _ (m : Machine) (wf : WellFormed m) (kids u k p b : List ℕ) (described : Described m kids) (started : Started m u k p b) where
+  -- A node with a kind is a type row's.
+  row-kind : (x : ℕ) → x < 327 → 1 ≤ kindAt k x → (x < length (m .types)) × (kindAt k x ≡ formKind x (typeAt m x))
+  row-kind x h positive = go (ltb x (length (m .types))) refl
+    where
+      go : (t : Bool) → ltb x (length (m .types)) ≡ t → (x < length (m .types)) × (kindAt k x ≡ formKind x (typeAt m x))
+      go true e = (ltb-true _ _ e, started .kinds x h ∙ rw e)
+      go false e = let none : kindAt k x ≡ 0 = started .kinds x h ∙ rw e in absurd (omega arith)
+
+  linked : {A : Type 0} (l : List ℕ) (v : ℕ → A) → ((x : ℕ) → x < 327 → up l x ≡ x) → Linked l v
+  linked l v self x h = ap v (sym (self x h))
+
+  -- One form's agreement, as its kind says it.
+  agrees-kind : (t : ℕ → Ty ℕ) (v : ℕ → ℕ) (x : ℕ) (form : TypeForm) → x < length (m .types) → typeAt m x ≡ form → TypeAgrees (free v) (assignment m t v) form (t x) →
+      (formKind x form ≡ 1 → t x ≡ int) × (2 ≤ formKind x form → t x ≡ arrowOf kids t v (formKind x form - 2))
+  agrees-kind t v x Int h is e = (λ one. e, λ two. absurd (omega arith))
+  agrees-kind t v x Any h is e = (λ one. absurd (omega arith), λ two. absurd (omega arith))
+  agrees-kind t v x (Arrow q a q′ c) h is e =
+      let parts = described .types x h q a q′ c is in
+      let same : x + 2 - 2 ≡ x = omega arith in (
+        λ one. absurd (omega arith),
+        λ two. rw same (cc (e, meaning-node m t v q, meaning-node m t v q′, parts .argument-qualifier, parts .argument, parts .result-qualifier, parts .result)),
+      )
+
+  kind-agrees : (t : ℕ → Ty ℕ) (v : ℕ → ℕ) (x : ℕ) (form : TypeForm) → x < length (m .types) → typeAt m x ≡ form →
+      (formKind x form ≡ 1 → t x ≡ int) → (2 ≤ formKind x form → t x ≡ arrowOf kids t v (formKind x form - 2)) → TypeAgrees (free v) (assignment m t v) form (t x)
+  kind-agrees t v x Int h is one two = one refl
+  kind-agrees t v x Any h is one two = tt
+  kind-agrees t v x (Arrow q a q′ c) h is one two =
+      let parts = described .types x h q a q′ c is in
+      let same : x + 2 - 2 ≡ x = omega arith in
+      let e = rw same at (two (omega arith)) in
+      cc (e, meaning-node m t v q, meaning-node m t v q′, parts .argument-qualifier, parts .argument, parts .result-qualifier, parts .result)
+
+  classes-start : Classes p b
+  classes-start =
+      record {
+        forest = record { size = started .sizes .2; low = λ x h. omega (arith, started .qualifier-roots x h) };
+        size = started .sizes .3;
+        constants = λ c h. started .qualifier-roots c (omega arith);
+        codes = λ x h. omega (arith, started .bounds x h);
+        sinks = λ x h. rw (started .qualifier-roots x h) (reflexive _ (omega (arith, started .bounds x h)));
+      }
+
+  kinds-below : (x : ℕ) (form : TypeForm) → x < 64 → formKind x form < 322
+  kinds-below x Int h = omega arith
+  kinds-below x Any h = omega arith
+  kinds-below x (Arrow q a q′ c) h = omega arith
+
+  start-below : (x : ℕ) → startKind m x < 322
+  start-below x = go (ltb x (length (m .types))) refl
+    where
+      go : (t : Bool) → ltb x (length (m .types)) ≡ t → cond t (formKind x (typeAt m x)) 0 < 322
+      go true e = kinds-below x (typeAt m x) (omega (arith, ltb-true x (length (m .types)) e, wf .types-fit))
+      go false e = omega arith
+
+  types-start : TypeClasses u k
+  types-start =
+      record {
+        forest = record { size = started .sizes .0; low = λ x h. omega (arith, started .type-roots x h) };
+        size = started .sizes .1;
+        bare = λ x h n. absurd (n (started .type-roots x h));
+        kinds = λ x h. rw (started .kinds x h) (start-below x);
+      }
+
+  pub start-after : After m kids u k p b 0
+  start-after =
+      record {
+        types = types-start;
+        classes = classes-start;
+        into = λ t v meets. (
+          record {
+            linked = linked u t (started .type-roots);
+            ints = λ x h e.
+                let at = row-kind x h (omega arith) in
+                agrees-kind t v x (typeAt m x) (at .0) refl (meets .types-agree x (at .0)) .0 (sym (at .1) ∙ e);
+            arrows = λ x h e.
+                let at = row-kind x h (omega arith) in
+                rw (at .1) (agrees-kind t v x (typeAt m x) (at .0) refl (meets .types-agree x (at .0)) .1 (rw (at .1) at e));
+          },
+          linked p v (started .qualifier-roots),
+        );
+        outof = λ t v reads link.
+            record {
+              types-agree = λ x h.
+                  let low : x < 327 = omega (arith, wf .types-fit) in
+                  let same : kindAt k x ≡ formKind x (typeAt m x) = started .kinds x low ∙ rw (lt-ltb _ _ h) in
+                  kind-agrees t v x (typeAt m x) h refl (λ e. reads .ints x low (same ∙ e)) (λ e. rw same at (reads .arrows x low (rw same e)));
+              params-agree = λ q h. (sym (meaning-node m t v (paramAt m q .qualifier)), refl);
+              rows-meet = λ i below h. let z : ⊥ = omega arith in absurd z;
+            };
+        bounds-into = λ v coded link fits x h. rw (started .bounds x h) (rand-greatest (v x) (coded x h));
+        bounds-outof = λ v link bounded i below h. let z : ⊥ = omega arith in absurd z;
+      }

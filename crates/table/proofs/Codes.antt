@@ -1,0 +1,87 @@
+-- The codes in a line that was read: qualifiers up to 70, the five operations, the six schemes.
+use Prim.Native.Nat.{ℕ, _≤_, _<_}
+use mathlib.Core.Bool.{Bool, true, false}
+use mathlib.Core.List.{List}
+use mathlib.Core.Path.{_≡_, refl}
+use lib.Dec.{eqb}
+use lib.ListN.{length}
+use Rattle.model.specs.Line.{fields, given, choose, exactly, intLine, anyLine, arrowLine, paramLine, lamLine, appLine, opLine, varLine, numLine, encLine, typeLine, leafLine, termLine, lineOf}
+use Rattle.model.specs.declared.Field.{Field}
+use Rattle.model.specs.declared.Field.the-variants.{Value, NoValue}
+use Rattle.model.specs.declared.TypeForm.{TypeForm}
+use Rattle.model.specs.declared.TypeForm.the-variants.{Int, Any, Arrow}
+use Rattle.model.specs.declared.Term.{Term}
+use Rattle.model.specs.declared.Term.the-variants.{Lam, App, Op, Var, Num, Enc}
+use Rattle.model.specs.declared.Line.{Line}
+use Rattle.model.specs.declared.Line.the-variants.{TypeLine, ParamLine, TermLine, NoForm}
+use Rattle.line.proofs.Bounds.{qualifier-at-most, scheme-between, operation-below}
+
+abbrev pub FormCodes : TypeForm → Type 0
+FormCodes Int = Unit {0}
+FormCodes Any = Unit {0}
+FormCodes (Arrow q t q′ t′) = (q ≤ 70) × (q′ ≤ 70)
+
+abbrev pub TermCodes : Term → Type 0
+TermCodes (Lam p b) = Unit {0}
+TermCodes (App f a) = Unit {0}
+TermCodes (Op o l r) = o < 5
+TermCodes (Var p) = Unit {0}
+TermCodes (Num n) = Unit {0}
+TermCodes (Enc s n) = (1 ≤ s) × (s ≤ 6)
+
+abbrev pub LineCodes : Line → Type 0
+LineCodes (TypeLine i form) = FormCodes form
+LineCodes (ParamLine p param) = param .qualifier ≤ 70
+LineCodes (TermLine i term) = TermCodes term
+LineCodes NoForm = Unit {0}
+
+-- What is chosen, and what a field's value goes into, has such codes where each choice and each value's line has.
+chosen : (b : Bool) (x y : Line) → LineCodes x → LineCodes y → LineCodes (choose b x y)
+unfolding choose
+chosen true x y h k = h
+chosen false x y h k = k
+
+of-value : (f : Field) (rest : ℕ → Line) → ((n : ℕ) → f ≡ Value n → LineCodes (rest n)) → LineCodes (given f rest)
+unfolding given
+of-value (Value n) rest h = h n refl
+of-value NoValue rest h = tt
+
+module _ (s : List ℕ) where
+  whole-line : (n : ℕ) (line : Line) → LineCodes line → LineCodes (exactly n s line)
+  unfolding exactly
+  whole-line n line h = chosen (eqb (length (fields s)) n) line NoForm h tt
+
+  type-line : LineCodes (typeLine s)
+  unfolding typeLine intLine anyLine arrowLine
+  type-line =
+      chosen _ _ _ (whole-line 3 _ (of-value _ _ (λ i e. tt)))
+      (chosen _ _ _ (whole-line 3 _ (of-value _ _ (λ i e. tt)))
+      (chosen _ _ _
+      (whole-line 7 _
+      (of-value _ _ λ i e. of-value _ _ λ q e. of-value _ _ λ t e′. of-value _ _ λ q′ e″. of-value _ _ λ t′ e‴.
+      (qualifier-at-most _ q e, qualifier-at-most _ q′ e″)))
+      tt))
+
+  param-line : LineCodes (paramLine s)
+  unfolding paramLine
+  param-line = whole-line 4 _ (of-value _ _ λ p e. of-value _ _ λ q e′. of-value _ _ λ t e″. qualifier-at-most _ q e′)
+
+  leaf-line : LineCodes (leafLine s)
+  unfolding leafLine varLine numLine encLine
+  leaf-line =
+      chosen _ _ _ (whole-line 4 _ (of-value _ _ λ i e. of-value _ _ λ p e′. tt))
+      (chosen _ _ _ (whole-line 4 _ (of-value _ _ λ i e. of-value _ _ λ n e′. tt))
+      (chosen _ _ _ (whole-line 5 _ (of-value _ _ λ i e. of-value _ _ λ c e′. of-value _ _ λ n e″. scheme-between _ c e′)) tt))
+
+  term-line : LineCodes (termLine s)
+  unfolding termLine lamLine appLine opLine
+  term-line =
+      chosen _ _ _ (whole-line 5 _ (of-value _ _ λ i e. of-value _ _ λ p e′. of-value _ _ λ b e″. tt))
+      (chosen _ _ _ (whole-line 5 _ (of-value _ _ λ i e. of-value _ _ λ f e′. of-value _ _ λ a e″. tt))
+      (chosen _ _ _
+      (whole-line 6 _ (of-value _ _ λ i e. of-value _ _ λ o e′. of-value _ _ λ l e″. of-value _ _ λ r e‴. operation-below _ o e′))
+      leaf-line))
+
+  pub line-codes : LineCodes (lineOf s)
+  unfolding lineOf
+  line-codes = chosen _ _ _ (chosen _ _ _ type-line (chosen _ _ _ param-line (chosen _ _ _ term-line tt))) tt

@@ -1,0 +1,9 @@
+pub mod Counts
+pub mod Entries
+pub mod Tests
+pub mod Refusals
+pub mod Scan
+pub mod Stored
+pub mod Codes
+pub mod WellFormed
+pub mod Follows

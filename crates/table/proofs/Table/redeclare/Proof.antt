@@ -1,0 +1,46 @@
+-- A refusal leaves the lists; else one parameter is replaced where it stands.
+use borrow.Author.Needs.{needs}
+use Rattle.table.proofs.Stored.{not-declared, code-past, redeclare-stored}
+use Rattle.table.proofs.Table.redeclare.Statement.{statement}
+use Rattle.table.proofs.Table.redeclare.Tie as tie
+
+parameters-requires : tie.Need-parameters-requires
+parameters-requires c κs = search needs
+
+returns : tie.Need-returns
+returns c = not-declared _ _ _ _ (c .before .parameters .ensures .0) (c .if1 .taken)
+
+returns-2 : tie.Need-returns-2
+returns-2 c = code-past _ _ _ _ (c .before .before .parameters .ensures .0) (c .before .if1 .left) (c .if2 .taken)
+
+mul-param : tie.Need-mul-param
+mul-param c = search needs
+
+element-copy-out-param : tie.Need-element-copy-out-param
+element-copy-out-param c = search needs
+
+cast-param : tie.Need-cast-param
+cast-param c = search needs
+
+mul-param-2 : tie.Need-mul-param-2
+mul-param-2 c = search needs
+
+element-set-from-param : tie.Need-element-set-from-param
+element-set-from-param c = search needs
+
+returns-3 : tie.Need-returns-3
+returns-3 c = redeclare-stored (c .before .before .before .before .args .t1) _ _ _ (c .before .before .before .parameters .ensures .0) (c .before .before .if1 .left) (c .before .if2 .left)
+
+pub redeclare-spec : {M : Type 1} → statement M
+redeclare-spec =
+    tie.close
+    (tie.spec
+    parameters-requires
+    returns
+    returns-2
+    mul-param
+    element-copy-out-param
+    cast-param
+    mul-param-2
+    element-set-from-param
+    returns-3)

@@ -1,0 +1,280 @@
+-- Every call leaves a well-formed machine well-formed: what stands was checked when it was added, and later entries only make the lists longer.
+use Prim.Native.Nat.{ℕ, _+_, _-_, _≤_, _<_}
+use native.Mathlib.Omega.{arith}
+use native.Mathlib.Decide.{ℕ-discrete, decLt}
+use mathlib.Core.Bool.{Bool, true, false, not, _&&_}
+use mathlib.Core.List.{List, [], _∷_, _++_}
+use mathlib.Core.Path.{_≡_, refl, ap, sym, subst, _∙_}
+use lib.Dec.{eqb, ltb, leb}
+use lib.ListN.{length, getD, take, set, length-append, length-take, length-set, List·getD-append}
+use lib.Seq.{getD-append-seam, getD-set-same, getD-set-other}
+use borrow.Author.Tests.{eqb-true, eq-eqb, ltb-true, leb-true, not-true}
+use Rattle.scheme.proofs.Every.{and-left, and-right}
+use Rattle.model.specs.Lists.{anyOf, allOf, contains}
+use Rattle.model.specs.Line.{lineOf}
+use Rattle.model.specs.Machine.{Machine, freshMachine, paramAt, termAt, children, named, binds, parts, used, bound, twice, typeRefusal, paramRefusal, termRefusal, entered, added, redeclared, takenBack}
+use Rattle.model.specs.WellFormed.{TypeStands, ParamStands, TermStands, WellFormed}
+use Rattle.model.specs.Session.{Call, Outcome, Answers, adds, redeclares, takes-back, infers}
+use Rattle.model.specs.declared.TypeForm.{TypeForm}
+use Rattle.model.specs.declared.TypeForm.the-variants.{Int, Any, Arrow}
+use Rattle.model.specs.declared.Param.{Param}
+use Rattle.model.specs.declared.Term.{Term}
+use Rattle.model.specs.declared.Term.the-variants.{Lam, App, Op, Var, Num, Enc}
+use Rattle.model.specs.declared.TermRow.{TermRow}
+use Rattle.model.specs.declared.Line.{Line}
+use Rattle.model.specs.declared.Line.the-variants.{TypeLine, ParamLine, TermLine, NoForm}
+use Rattle.model.proofs.Checks.{passed, settled-keeps}
+use Rattle.table.proofs.Tests.{or-cases, or-neither, any-at}
+use Rattle.table.proofs.Entries.{taken, no-row}
+use Rattle.table.proofs.Codes.{FormCodes, TermCodes, LineCodes, line-codes}
+
+none-below-zero : {A : Type 0} (n : ℕ) → n < 0 → A
+none-below-zero n h = let z : ⊥ = omega arith in absurd z
+
+pub fresh-well-formed : WellFormed freshMachine
+fresh-well-formed =
+    record {
+      types-fit = omega arith;
+      params-fit = omega arith;
+      terms-fit = omega arith;
+      types-stand = λ t h. none-below-zero t h;
+      params-stand = λ p h. none-below-zero p h;
+      terms-stand = λ i h. none-below-zero i h;
+      one-parent = λ i j c h k e f. none-below-zero i h;
+      two-children = λ i a b h e f. none-below-zero i h;
+      one-binder = λ i j c h k e f. none-below-zero i h;
+    }
+
+-- What holds of each entry of a list, and of one more at its place, holds of each entry of the longer list.
+each-appended : {A : Type 0} (P : ℕ → A → Type 0) (xs : List A) (a d : A) → ((i : ℕ) → i < length xs → P i (getD xs i d)) → P (length xs) a →
+    (i : ℕ) → i < length (xs ++ (a ∷ [])) → P i (getD (xs ++ (a ∷ [])) i d)
+each-appended P xs a d old new i h = go (decLt i (length xs))
+  where
+    go : Dec (i < length xs) → P i (getD (xs ++ (a ∷ [])) i d)
+    go (yes below) = rw (List·getD-append xs (a ∷ []) d i below) (old i below)
+    go (no past) =
+        let last : i ≡ length xs = omega (arith, simp length-append at h) in
+        rw (last, getD-append-seam xs a [] d) new
+
+-- A test that no number of a list passes, at one of them.
+none-of : (test : ℕ → Bool) (l : List ℕ) (c : ℕ) → anyOf test l ≡ false → contains c l ≡ true → test c ≡ false
+none-of test [] c e h = cc
+none-of test (a ∷ l) c e h =
+    let neither = or-neither (test a) (anyOf test l) e in
+    or-cases (eqb c a) (contains c l) h (λ same. rw (eqb-true c a same) (neither .0)) (λ later. none-of test l c (neither .1) later)
+
+-- What the checks of an accepted add say.
+record TypePassed (m : Machine) (i : ℕ) (form : TypeForm) : Type 0 where
+  next : i ≡ length (m .types)
+  room : length (m .types) < 64
+  below : allOf (λ t. ltb t i) (parts form) ≡ true
+
+type-passed : (m : Machine) (i : ℕ) (form : TypeForm) → typeRefusal m i form ≡ 0 → TypePassed m i form
+unfolding typeRefusal
+type-passed m i form e =
+    let two = passed 2 _ _ (omega arith) e in
+    let three = passed 3 _ _ (omega arith) (two .1) in
+    let four = passed 4 _ _ (omega arith) (three .1) in
+    record { next = eqb-true i _ (two .0); room = ltb-true _ 64 (three .0); below = four .0 }
+
+record ParamPassed (m : Machine) (param : Param) : Type 0 where
+  room : length (m .params) < 64
+  declared : param .typerow < length (m .types)
+
+param-passed : (m : Machine) (p : ℕ) (param : Param) → paramRefusal m p param ≡ 0 → ParamPassed m param
+unfolding paramRefusal
+param-passed m p param e =
+    let two = passed 2 _ _ (omega arith) e in
+    let three = passed 3 _ _ (omega arith) (two .1) in
+    let four = passed 4 _ _ (omega arith) (three .1) in
+    record { room = ltb-true _ 64 (three .0); declared = ltb-true _ _ (four .0) }
+
+record TermPassed (m : Machine) (i : ℕ) (term : Term) : Type 0 where
+  next : i ≡ length (m .terms)
+  room : length (m .terms) < 256
+  declared : allOf (λ p. ltb p (length (m .params))) (named term) ≡ true
+  below : allOf (λ c. ltb c i) (children term) ≡ true
+  free : (not (anyOf (used (m .terms)) (children term)) && not (twice (children term))) ≡ true
+  unbound : not (anyOf (bound (m .terms)) (binds term)) ≡ true
+
+term-passed : (m : Machine) (i : ℕ) (term : Term) → termRefusal m i term ≡ 0 → TermPassed m i term
+unfolding termRefusal
+term-passed m i term e =
+    let two = passed 2 _ _ (omega arith) e in
+    let three = passed 3 _ _ (omega arith) (two .1) in
+    let five = passed 5 _ _ (omega arith) (three .1) in
+    let six = passed 6 _ _ (omega arith) (five .1) in
+    let seven = passed 7 _ _ (omega arith) (six .1) in
+    let eight = passed 8 _ _ (omega arith) (seven .1) in
+    record { next = eqb-true i _ (two .0); room = ltb-true _ 256 (three .0); declared = five .0; below = six .0; free = seven .0; unbound = eight .0 }
+
+-- The new entry stands.
+type-stands : (form : TypeForm) (i : ℕ) → FormCodes form → allOf (λ t. ltb t i) (parts form) ≡ true → TypeStands i form
+type-stands Int i codes h = tt
+type-stands Any i codes h = tt
+type-stands (Arrow q t q′ t′) i codes h = (codes .0, ltb-true t i (and-left _ _ h), codes .1, ltb-true t′ i (and-left _ _ (and-right (ltb t i) _ h)))
+
+term-stands : (term : Term) (params i : ℕ) → TermCodes term → allOf (λ p. ltb p params) (named term) ≡ true → allOf (λ c. ltb c i) (children term) ≡ true → TermStands params i term
+term-stands (Lam p b) params i codes n h = (ltb-true p params (and-left _ _ n), ltb-true b i (and-left _ _ h))
+term-stands (App f a) params i codes n h = (ltb-true f i (and-left _ _ h), ltb-true a i (and-left _ _ (and-right (ltb f i) _ h)))
+term-stands (Op o l r) params i codes n h = (codes, ltb-true l i (and-left _ _ h), ltb-true r i (and-left _ _ (and-right (ltb l i) _ h)))
+term-stands (Var p) params i codes n h = ltb-true p params (and-left _ _ n)
+term-stands (Num n′) params i codes n h = tt
+term-stands (Enc s n′) params i codes n h = codes
+
+-- More parameters declared.
+term-stands-more : (term : Term) (params i : ℕ) → TermStands params i term → TermStands (params + 1) i term
+term-stands-more (Lam p b) params i h = (omega arith, h .1)
+term-stands-more (App f a) params i h = h
+term-stands-more (Op o l r) params i h = h
+term-stands-more (Var p) params i h = omega arith
+term-stands-more (Num n) params i h = h
+term-stands-more (Enc s n) params i h = h
+
+-- No two rows name one number: their children, or the parameters that they bind.
+abbrev Apart : (Term → List ℕ) → List TermRow → Type 0
+Apart names rows = (i j c : ℕ) → i < length rows → j < length rows →
+    contains c (names (getD rows i no-row .term)) ≡ true → contains c (names (getD rows j no-row .term)) ≡ true → i ≡ j
+
+-- One row more.
+abbrev with-row : List TermRow → Term → List TermRow
+with-row rows term = rows ++ (record { term = term } ∷ [])
+
+module _ (names : Term → List ℕ) (rows : List TermRow) (apart : Apart names rows) where
+  apart-taken : (k : ℕ) → Apart names (take k rows)
+  apart-taken k i j c h l e f =
+      let at-i = taken rows k i no-row h in
+      let at-j = taken rows k j no-row l in
+      apart i j c (at-i .0) (at-j .0) (rw (at-i .1) at e) (rw (at-j .1) at f)
+
+  -- A number of the new row is one that no row named.
+  module _ (term : Term) (free : anyOf (λ c. anyOf (λ row. contains c (names (row .term))) rows) (names term) ≡ false) where
+    not-named : (i c : ℕ) → i < length rows → contains c (names (getD rows i no-row .term)) ≡ true → contains c (names term) ≡ true → ⊥
+    not-named i c h e f =
+        let some = any-at (λ row. contains c (names (row .term))) rows i no-row h e in
+        let none = none-of (λ c. anyOf (λ row. contains c (names (row .term))) rows) (names term) c free f in
+        let z : _≡_ {A = ℕ} 0 1 = cc (sym some ∙ none) in
+        omega arith
+
+    -- the new row beside any, and an old one beside any
+    new-apart : (c : ℕ) → contains c (names term) ≡ true → (j : ℕ) → j < length (with-row rows term) → contains c (names (getD (with-row rows term) j no-row .term)) ≡ true → length rows ≡ j
+    new-apart c e =
+        each-appended (λ j row. contains c (names (row .term)) ≡ true → length rows ≡ j) rows (record { term = term }) no-row
+        (λ j h f. absurd (not-named j c h f e))
+        (λ f. refl)
+
+    old-apart : (i c : ℕ) → i < length rows → contains c (names (getD rows i no-row .term)) ≡ true → (j : ℕ) → j < length (with-row rows term) → contains c (names (getD (with-row rows term) j no-row .term)) ≡ true → i ≡ j
+    old-apart i c h e =
+        each-appended (λ j row. contains c (names (row .term)) ≡ true → i ≡ j) rows (record { term = term }) no-row
+        (λ j k f. apart i j c h k e f)
+        (λ f. absurd (not-named i c h e f))
+
+    apart-appended : Apart names (with-row rows term)
+    apart-appended i j c h k e f =
+        each-appended (λ i row. contains c (names (row .term)) ≡ true → i ≡ j) rows (record { term = term }) no-row
+        (λ i h e. old-apart i c h e j k f)
+        (λ e. new-apart c e j k f)
+        i h e
+
+-- No row is both children of the new one.
+different : (l : List ℕ) (a b : ℕ) → not (twice l) ≡ true → l ≡ a ∷ b ∷ [] → a ≡ b → ⊥
+different l a b h e same =
+    let z : _≡_ {A = ℕ} 0 1 = cc (h, eq-eqb a b same) in
+    omega arith
+
+module _ (m : Machine) (w : WellFormed m) where
+  type-entered : (i : ℕ) (form : TypeForm) → FormCodes form → TypePassed m i form → WellFormed (record { types = m .types ++ (record { form = form } ∷ []); params = m .params; terms = m .terms })
+  type-entered i form codes p =
+      record {
+        types-fit = simp length-append (omega (arith, p .room));
+        params-fit = w .params-fit;
+        terms-fit = w .terms-fit;
+        types-stand = each-appended (λ t row. TypeStands t (row .form)) (m .types) (record { form = form }) (record { form = Int }) (w .types-stand) (rw (← p .next) (type-stands form i codes (p .below)));
+        params-stand = λ q h. (w .params-stand q h .0, simp length-append (omega (arith, w .params-stand q h .1)));
+        terms-stand = w .terms-stand;
+        one-parent = w .one-parent;
+        two-children = w .two-children;
+        one-binder = w .one-binder;
+      }
+
+  param-entered : (param : Param) → param .qualifier ≤ 70 → ParamPassed m param → WellFormed (record { types = m .types; params = m .params ++ (param ∷ []); terms = m .terms })
+  param-entered param code p =
+      record {
+        types-fit = w .types-fit;
+        params-fit = simp length-append (omega (arith, p .room));
+        terms-fit = w .terms-fit;
+        types-stand = w .types-stand;
+        params-stand = each-appended (λ q param. ParamStands (length (m .types)) param) (m .params) param (record { qualifier = 0; typerow = 0 }) (w .params-stand) (code, p .declared);
+        terms-stand = λ i h. simp length-append (term-stands-more (termAt m i) _ i (w .terms-stand i h));
+        one-parent = w .one-parent;
+        two-children = w .two-children;
+        one-binder = w .one-binder;
+      }
+
+  term-entered : (i : ℕ) (term : Term) → TermCodes term → TermPassed m i term → WellFormed (record { types = m .types; params = m .params; terms = m .terms ++ (record { term = term } ∷ []) })
+  term-entered i term codes p =
+      record {
+        types-fit = w .types-fit;
+        params-fit = w .params-fit;
+        terms-fit = simp length-append (omega (arith, p .room));
+        types-stand = w .types-stand;
+        params-stand = w .params-stand;
+        terms-stand = each-appended (λ j row. TermStands (length (m .params)) j (row .term)) (m .terms) (record { term = term }) no-row (w .terms-stand) (rw (← p .next) (term-stands term _ i codes (p .declared) (p .below)));
+        one-parent = apart-appended children (m .terms) (w .one-parent) term (not-true _ (and-left _ _ (p .free)));
+        two-children = λ j a b h. each-appended (λ j row. children (row .term) ≡ a ∷ b ∷ [] → a ≡ b → ⊥) (m .terms) (record { term = term }) no-row (λ j h. w .two-children j a b h) (different (children term) a b (and-right (not (anyOf (used (m .terms)) (children term))) _ (p .free))) j h;
+        one-binder = apart-appended binds (m .terms) (w .one-binder) term (not-true _ (p .unbound));
+      }
+
+  entered-well-formed : (line : Line) → LineCodes line → WellFormed (entered m line .machine)
+  unfolding entered
+  entered-well-formed (TypeLine i form) codes = settled-keeps WellFormed m _ _ w λ e. type-entered i form codes (type-passed m i form e)
+  entered-well-formed (ParamLine p param) codes = settled-keeps WellFormed m _ _ w λ e. param-entered param codes (param-passed m p param e)
+  entered-well-formed (TermLine i term) codes = settled-keeps WellFormed m _ _ w λ e. term-entered i term codes (term-passed m i term e)
+  entered-well-formed NoForm codes = settled-keeps WellFormed m _ _ w (λ e. w)
+
+  redeclared-stands : (p code : ℕ) → p < length (m .params) → code ≤ 70 → (q : ℕ) → q < length (m .params) →
+      ParamStands (length (m .types)) (getD (set (m .params) p (record { qualifier = code; typerow = paramAt m p .typerow })) q (record { qualifier = 0; typerow = 0 }))
+  redeclared-stands p code h g q l = go (ℕ-discrete q p)
+    where
+      go : Dec (q ≡ p) → ParamStands (length (m .types)) (getD (set (m .params) p (record { qualifier = code; typerow = paramAt m p .typerow })) q (record { qualifier = 0; typerow = 0 }))
+      go (yes e) = rw (e, getD-set-same (m .params) p _ _ h) (g, w .params-stand p h .1)
+      go (no e) = rw (getD-set-other (m .params) p q _ _ e) (w .params-stand q l)
+
+  param-redeclared : (p code : ℕ) → p < length (m .params) → code ≤ 70 → WellFormed (record { types = m .types; params = set (m .params) p (record { qualifier = code; typerow = paramAt m p .typerow }); terms = m .terms })
+  param-redeclared p code h g =
+      record {
+        types-fit = w .types-fit;
+        params-fit = simp length-set (w .params-fit);
+        terms-fit = w .terms-fit;
+        types-stand = w .types-stand;
+        params-stand = λ q l. redeclared-stands p code h g q (simp length-set at l);
+        terms-stand = λ i l. simp length-set (w .terms-stand i l);
+        one-parent = w .one-parent;
+        two-children = w .two-children;
+        one-binder = w .one-binder;
+      }
+
+  -- Fewer rows standing.
+  rows-taken : (k : ℕ) → WellFormed (record { types = m .types; params = m .params; terms = take k (m .terms) })
+  rows-taken k =
+      record {
+        types-fit = w .types-fit;
+        params-fit = w .params-fit;
+        terms-fit = simp length-take (omega (arith, w .terms-fit));
+        types-stand = w .types-stand;
+        params-stand = w .params-stand;
+        terms-stand = λ i h. let at = taken (m .terms) k i no-row h in subst (λ (row : TermRow). TermStands (length (m .params)) i (row .term)) (sym (at .1)) (w .terms-stand i (at .0));
+        one-parent = apart-taken children (m .terms) (w .one-parent) k;
+        two-children = λ i a b h e. let at = taken (m .terms) k i no-row h in w .two-children i a b (at .0) (ap (λ (row : TermRow). children (row .term)) (sym (at .1)) ∙ e);
+        one-binder = apart-taken binds (m .terms) (w .one-binder) k;
+      }
+
+  pub answers-well-formed : {call : Call} {o : Outcome} {after : Machine} → Answers m call o after → WellFormed after
+  unfolding added redeclared takenBack
+  answers-well-formed (adds {line}) = entered-well-formed (lineOf line) (line-codes line)
+  answers-well-formed (redeclares {p} {code}) =
+      settled-keeps WellFormed m _ _ w λ e.
+      let five = passed 5 (ltb p (length (m .params))) _ (omega arith) e in
+      param-redeclared p code (ltb-true p _ (five .0)) (leb-true code 70 (passed 12 (leb code 70) [] (omega arith) (five .1) .0))
+  answers-well-formed takes-back = settled-keeps WellFormed m _ _ w (λ e. rows-taken (length (m .terms) - 1))
+  answers-well-formed (infers i) = w

@@ -1,0 +1,4 @@
+pub mod Lists
+pub mod Children
+pub mod Sought
+pub mod Ran

@@ -1,0 +1,369 @@
+// The table of type rows, parameters and term rows, and the calls that change it, by value.
+ghost use mathlib.Core.Path.{_≡_};
+ghost use mathlib.Core.Bool.{not, _&&_};
+ghost use mathlib.Core.List.{[], _∷_};
+ghost use Prim.Native.Nat.{ℕ, _≤_, min};
+ghost use lib.Dec.{eqb, ltb};
+ghost use lib.ListN.{length};
+ghost use Rattle.model.specs.Lists.{anyOf, allOf};
+ghost use Rattle.model.specs.Machine.{freshMachine, children, binds, parts, used, bound, twice, firstFailing, typeRefusal, paramRefusal, termRefusal, entered, added, redeclared, takenBack};
+ghost use Rattle.table.specs.Lists.{lists, change};
+ghost use Rattle.table.specs.Sought.{namedBy};
+use model::Line;
+use model::Param;
+use model::Term;
+use model::TermRow;
+use model::TypeForm;
+use model::TypeRow;
+
+pub mod term;
+
+use term::Children;
+use term::Sought;
+use term::children_below;
+use term::children_of;
+use term::names;
+use term::parameter_declared;
+
+// The entries that stand are the first ones of each array, as many as its count says.
+pub struct Table {
+    pub types: [TypeRow; 64],
+    pub params: [Param; 64],
+    pub terms: [TermRow; 256],
+    pub typecount: usize,
+    pub paramcount: usize,
+    pub termcount: usize,
+}
+
+// What a call hands back: the table, and the number of the refusal, or 0.
+pub struct Answered {
+    pub table: Table,
+    pub number: u16,
+}
+
+impl Table {
+    // The most entries of each list.
+    pub const TYPES: usize = 64;
+
+    pub const PARAMS: usize = 64;
+
+    pub const TERMS: usize = 256;
+
+    // No entry stands: what the arrays hold does not matter.
+    pub fn fresh() -> Table
+        ensures { λ r. ⌜ lists r ≡ freshMachine ⌝ }
+    {
+        let row = TypeRow {
+            form: TypeForm::Int,
+        };
+        let param = Param {
+            qualifier: 0,
+            typerow: 0,
+        };
+        let term = TermRow { term: Term::Num(0) };
+        Table {
+            types: [row; Table::TYPES],
+            params: [param; Table::PARAMS],
+            terms: [term; Table::TERMS],
+            typecount: 0,
+            paramcount: 0,
+            termcount: 0,
+        }
+    }
+
+    // How many type rows stand.
+    pub fn type_rows(self) -> usize
+        ensures { λ r. ⌜ (r ≡ length (lists self .types)) × (r ≤ 64) ⌝ }
+    {
+        filled(self.typecount, Table::TYPES)
+    }
+
+    // How many parameters stand.
+    pub fn parameters(self) -> usize
+        ensures { λ r. ⌜ (r ≡ length (lists self .params)) × (r ≤ 64) ⌝ }
+    {
+        filled(self.paramcount, Table::PARAMS)
+    }
+
+    // How many term rows stand.
+    pub fn term_rows(self) -> usize
+        ensures { λ r. ⌜ (r ≡ length (lists self .terms)) × (r ≤ 256) ⌝ }
+    {
+        filled(self.termcount, Table::TERMS)
+    }
+
+    // Whether some row names what is sought.
+    fn some_row(self, sought: Sought) -> bool
+        ensures { λ r. ⌜ r ≡ anyOf (namedBy sought) (lists self .terms) ⌝ }
+    {
+        let rows = self.term_rows();
+        let mut i: usize = 0;
+        while i < rows {
+            let row = self.terms[i];
+            if names(row, sought) {
+                return true;
+            }
+            i += 1;
+        }
+        false
+    }
+
+    // Whether some row has the child.
+    pub fn is_used(self, child: u16) -> bool
+        ensures { λ r. ⌜ r ≡ used (lists self .terms) child ⌝ }
+    {
+        self.some_row(Sought::Child(child))
+    }
+
+    // Whether some LAM binds the parameter.
+    pub fn is_bound(self, p: u16) -> bool
+        ensures { λ r. ⌜ r ≡ bound (lists self .terms) p ⌝ }
+    {
+        self.some_row(Sought::Binder(p))
+    }
+
+    // Check 7: whether no child is used already, and no row is named as both children.
+    fn children_free(self, term: Term) -> bool
+        ensures { λ r. ⌜ r ≡ (not (anyOf (used (lists self .terms)) (children term)) && not (twice (children term))) ⌝ }
+    {
+        match children_of(term) {
+            Children::Nothing => true,
+            Children::One(only) => !self.is_used(only),
+            Children::Two(first, second) => {
+                if first == second {
+                    return false;
+                }
+                if self.is_used(first) {
+                    return false;
+                }
+                !self.is_used(second)
+            }
+        }
+    }
+
+    // Check 8: whether the parameter of a LAM is unbound.
+    fn binder_free(self, term: Term) -> bool
+        ensures { λ r. ⌜ r ≡ not (anyOf (bound (lists self .terms)) (binds term)) ⌝ }
+    {
+        match term {
+            Term::Lam(p, _) => !self.is_bound(p),
+            Term::App(_, _) => true,
+            Term::Op(_, _, _) => true,
+            Term::Var(_) => true,
+            Term::Num(_) => true,
+            Term::Enc(_, _) => true,
+        }
+    }
+
+    // The number of the first check that refuses a type row, or 0.
+    fn type_refusal(self, own: u16, form: TypeForm) -> u16
+        ensures { λ r. ⌜ r ≡ typeRefusal (lists self) own form ⌝ }
+    {
+        let place = place_refusal(own, self.type_rows(), Table::TYPES);
+        if place != 0 {
+            return place;
+        }
+        if parts_below(own, form) {
+            return 0;
+        }
+        4
+    }
+
+    // The number of the first check that refuses a parameter, or 0.
+    fn param_refusal(self, own: u16, param: Param) -> u16
+        ensures { λ r. ⌜ r ≡ paramRefusal (lists self) own param ⌝ }
+    {
+        let place = place_refusal(own, self.parameters(), Table::PARAMS);
+        if place != 0 {
+            return place;
+        }
+        if (param.typerow as usize) < self.type_rows() {
+            return 0;
+        }
+        4
+    }
+
+    // The number of the first check that refuses a term row, or 0.
+    fn term_refusal(self, own: u16, term: Term) -> u16
+        ensures { λ r. ⌜ r ≡ termRefusal (lists self) own term ⌝ }
+    {
+        let place = place_refusal(own, self.term_rows(), Table::TERMS);
+        if place != 0 {
+            return place;
+        }
+        if !parameter_declared(self.parameters(), term) {
+            return 5;
+        }
+        if !children_below(own, term) {
+            return 6;
+        }
+        if !self.children_free(term) {
+            return 7;
+        }
+        if !self.binder_free(term) {
+            return 8;
+        }
+        0
+    }
+
+    // Stores a type row behind those that stand, unless a check fails.
+    fn enter_type(mut self, own: u16, form: TypeForm) -> Answered
+        ensures { λ r. ⌜ change r ≡ entered (lists self) (Line.TypeLine own form) ⌝ }
+    {
+        let number = self.type_refusal(own, form);
+        if number != 0 {
+            return Answered {
+                table: self,
+                number,
+            };
+        }
+        let at = own as usize;
+        self.types[at] = TypeRow { form };
+        self.typecount = at + 1;
+        Answered {
+            table: self,
+            number: 0,
+        }
+    }
+
+    // Stores a parameter behind those that stand, unless a check fails.
+    fn enter_param(mut self, own: u16, param: Param) -> Answered
+        ensures { λ r. ⌜ change r ≡ entered (lists self) (Line.ParamLine own param) ⌝ }
+    {
+        let number = self.param_refusal(own, param);
+        if number != 0 {
+            return Answered {
+                table: self,
+                number,
+            };
+        }
+        let at = own as usize;
+        self.params[at] = param;
+        self.paramcount = at + 1;
+        Answered {
+            table: self,
+            number: 0,
+        }
+    }
+
+    // Stores a term row behind those that stand, unless a check fails.
+    fn enter_term(mut self, own: u16, term: Term) -> Answered
+        ensures { λ r. ⌜ change r ≡ entered (lists self) (Line.TermLine own term) ⌝ }
+    {
+        let number = self.term_refusal(own, term);
+        if number != 0 {
+            return Answered {
+                table: self,
+                number,
+            };
+        }
+        let at = own as usize;
+        self.terms[at] = TermRow { term };
+        self.termcount = at + 1;
+        Answered {
+            table: self,
+            number: 0,
+        }
+    }
+
+    // Adds the entry that a line's bytes spell, or refuses it.
+    pub fn add(mut self, line: &[u8]) -> Answered
+        ensures { λ r. ⌜ change r ≡ added (lists self) (now (line .entry)) ⌝ }
+    {
+        self.enter(line::read(line))
+    }
+
+    // Adds the entry of a line, or refuses it.
+    pub fn enter(mut self, line: Line) -> Answered
+        ensures { λ r. ⌜ change r ≡ entered (lists self) line ⌝ }
+    {
+        match line {
+            Line::TypeLine(own, form) => self.enter_type(own, form),
+            Line::ParamLine(own, param) => self.enter_param(own, param),
+            Line::TermLine(own, term) => self.enter_term(own, term),
+            Line::NoForm => Answered {
+                table: self,
+                number: 1,
+            },
+        }
+    }
+
+    // Replaces a parameter's qualifier.
+    pub fn redeclare(mut self, p: usize, code: usize) -> Answered
+        ensures { λ r. ⌜ change r ≡ redeclared (lists self) p code ⌝ }
+    {
+        if self.parameters() <= p {
+            return Answered {
+                table: self,
+                number: 5,
+            };
+        }
+        if 70 < code {
+            return Answered {
+                table: self,
+                number: 12,
+            };
+        }
+        let mut param = self.params[p];
+        param.qualifier = code as u8;
+        self.params[p] = param;
+        Answered {
+            table: self,
+            number: 0,
+        }
+    }
+
+    // Drops the last term row.
+    pub fn take_back(mut self) -> Answered
+        ensures { λ r. ⌜ change r ≡ takenBack (lists self) ⌝ }
+    {
+        let rows = self.term_rows();
+        if rows == 0 {
+            return Answered {
+                table: self,
+                number: 9,
+            };
+        }
+        self.termcount = rows - 1;
+        Answered {
+            table: self,
+            number: 0,
+        }
+    }
+}
+
+// How many entries of an array a count says.
+fn filled(count: usize, limit: usize) -> usize
+    ensures { λ r. ⌜ r ≡ min count limit ⌝ }
+{
+    if count <= limit { count } else { limit }
+}
+
+// Checks 2 and 3: the own number is the next, and the list is not full.
+fn place_refusal(own: u16, count: usize, limit: usize) -> u16
+    ensures { λ r. ⌜ r ≡ firstFailing ((2, eqb own count) ∷ (3, ltb count limit) ∷ []) ⌝ }
+{
+    if (own as usize) != count {
+        return 2;
+    }
+    if limit <= count {
+        return 3;
+    }
+    0
+}
+
+// Check 4 of a type row: whether the rows that it names are below its own number.
+fn parts_below(own: u16, form: TypeForm) -> bool
+    ensures { λ r. ⌜ r ≡ allOf (λ t. ltb t own) (parts form) ⌝ }
+{
+    match form {
+        TypeForm::Int => true,
+        TypeForm::Any => true,
+        TypeForm::Arrow(_, argument, _, result) => {
+            if argument < own {
+                return result < own;
+            }
+            false
+        }
+    }
+}

@@ -1,0 +1,6 @@
+pub mod Tally
+pub mod Classes
+pub mod Merging
+pub mod Noting
+pub mod Erasing
+pub mod Answering

@@ -1,0 +1,48 @@
+//! The functions that the static libraries export, each with a safe function of the same name.
+//!
+//! A slice passes as its pointer and its length.
+
+/// The functions as the libraries declare them.
+mod raw {
+    extern "C" {
+        pub fn read_line(
+            line: *const u8,
+            line_length: usize,
+            numbers: *mut u32,
+            numbers_length: usize,
+        ) -> u32;
+
+        pub fn run_calls(
+            script: *const u8,
+            script_length: usize,
+            numbers: *mut u16,
+            numbers_length: usize,
+            entries: *mut u8,
+            entries_length: usize,
+        ) -> u64;
+    }
+}
+
+/// Reads a line and writes its six numbers; returns 6, or 0 where the buffer is shorter.
+pub fn read_line(line: &[u8], numbers: &mut [u32]) -> u32 {
+    // SAFETY: both slices are valid for their lengths during the call, and only `numbers` is written.
+    unsafe { raw::read_line(line.as_ptr(), line.len(), numbers.as_mut_ptr(), numbers.len()) }
+}
+
+/// Runs the calls of a script on a fresh table, as many as there is room for their numbers.
+///
+/// It writes what each call returned, and every entry where there is room for all, and returns
+/// how many entries stand in each list.
+pub fn run_calls(script: &[u8], numbers: &mut [u16], entries: &mut [u8]) -> u64 {
+    // SAFETY: the slices are valid for their lengths during the call, and `script` is not written.
+    unsafe {
+        raw::run_calls(
+            script.as_ptr(),
+            script.len(),
+            numbers.as_mut_ptr(),
+            numbers.len(),
+            entries.as_mut_ptr(),
+            entries.len(),
+        )
+    }
+}

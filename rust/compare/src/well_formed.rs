@@ -1,0 +1,130 @@
+//! Lines of the ten forms, filled in with given or random fields.
+
+use second::generate::Random;
+use second::operation::Operation;
+use second::qualifier::{Qualifier, NAMED_VARIABLES};
+
+/// What stands in a field that is no fixed word.
+#[derive(Clone, Copy, Debug, PartialEq, Eq)]
+pub enum Field {
+    /// The own number.
+    Own,
+    /// The number of a type row.
+    TypeRow,
+    /// The number of a parameter.
+    Parameter,
+    /// The number of a term row.
+    Row,
+    /// A number from 0 to 4294967295.
+    Number,
+    /// A qualifier or a named variable.
+    Qualifier,
+    /// One of the six schemes.
+    Scheme,
+    /// An operation.
+    Operation,
+}
+
+/// A form of a line: the words before and after its own number, then its other fields.
+#[derive(Clone, Copy, Debug)]
+pub struct Form {
+    /// The list that the line is for.
+    pub list: &'static str,
+    /// The word after the own number, empty where there is none.
+    pub word: &'static str,
+    /// The fields after that word.
+    pub fields: &'static [Field],
+}
+
+/// The ten forms in the order of their numbers, which begin at 1.
+pub const ALL: [Form; 10] = [
+    Form { list: "T", word: "INT", fields: &[] },
+    Form { list: "T", word: "ANY", fields: &[] },
+    Form {
+        list: "T",
+        word: "ARROW",
+        fields: &[Field::Qualifier, Field::TypeRow, Field::Qualifier, Field::TypeRow],
+    },
+    Form { list: "P", word: "", fields: &[Field::Qualifier, Field::TypeRow] },
+    Form { list: "E", word: "LAM", fields: &[Field::Parameter, Field::Row] },
+    Form { list: "E", word: "APP", fields: &[Field::Row, Field::Row] },
+    Form { list: "E", word: "OP", fields: &[Field::Operation, Field::Row, Field::Row] },
+    Form { list: "E", word: "VAR", fields: &[Field::Parameter] },
+    Form { list: "E", word: "NUM", fields: &[Field::Number] },
+    Form { list: "E", word: "ENC", fields: &[Field::Scheme, Field::Number] },
+];
+
+impl Form {
+    /// The line of this form with the texts that a function gives for its fields, the own number first.
+    pub fn line(&self, mut text: impl FnMut(Field) -> String) -> String {
+        let mut line = format!("{},{}", self.list, text(Field::Own));
+        if !self.word.is_empty() {
+            line = format!("{line},{}", self.word);
+        }
+        for &field in self.fields {
+            line = format!("{line},{}", text(field));
+        }
+        line
+    }
+
+    /// How many fields the line has apart from its words, the own number included.
+    pub fn open_fields(&self) -> usize {
+        1 + self.fields.len()
+    }
+
+    /// The line of this form with one given field, and the lowest text in all others.
+    pub fn line_with(&self, position: usize, given: &str) -> String {
+        let mut positions = 0..;
+        self.line(|field| match positions.next() {
+            Some(next) if next == position => given.to_string(),
+            _ => lowest(field).to_string(),
+        })
+    }
+}
+
+/// One of the ten forms.
+pub fn random_form(random: &mut Random) -> Form {
+    ALL[random.below(ALL.len())]
+}
+
+/// A line of a random form with random fields, often at their limits.
+pub fn random_line(random: &mut Random) -> Vec<u8> {
+    let form = random_form(random);
+    form.line(|field| random_text(random, field)).into_bytes()
+}
+
+/// The first text that may stand in a field.
+fn lowest(field: Field) -> &'static str {
+    match field {
+        Field::Own | Field::TypeRow | Field::Parameter | Field::Row | Field::Number => "0",
+        Field::Qualifier => "PLAIN",
+        Field::Scheme => "FHE",
+        Field::Operation => "ADD",
+    }
+}
+
+/// A random text that may stand in a field.
+pub fn random_text(random: &mut Random, field: Field) -> String {
+    match field {
+        Field::Own | Field::TypeRow | Field::Parameter | Field::Row => {
+            random_number(random, u16::MAX.into()).to_string()
+        }
+        Field::Number => random_number(random, u32::MAX.into()).to_string(),
+        Field::Qualifier if random.one_in(2) => {
+            format!("g{}", random.below(NAMED_VARIABLES.into()))
+        }
+        Field::Qualifier => Qualifier::ALL[random.below(7)].word().to_string(),
+        Field::Scheme => Qualifier::ALL[random.between(1, 6)].word().to_string(),
+        Field::Operation => Operation::ALL[random.below(5)].word().to_string(),
+    }
+}
+
+/// A number up to the greatest one, of any number of bits, often close to the greatest.
+fn random_number(random: &mut Random, greatest: u64) -> u64 {
+    let number = random.number() % (greatest + 1);
+    match random.below(4) {
+        0 => greatest - number % 12,
+        1 => number,
+        _ => number >> random.below(64 - greatest.leading_zeros() as usize),
+    }
+}
