@@ -5,6 +5,8 @@ use compare::run_calls;
 use compare::script::{entries, script, sizes, ALL_ENTRIES_BYTES, CALL_BYTES, ENTRY_BYTES};
 use second::generate::Random;
 use second::Table;
+use std::io::Write;
+use std::time::{Duration, Instant};
 
 /// How many lists of calls each kind of short lists has.
 const SHORT_LISTS: usize = 20_000;
@@ -260,4 +262,30 @@ fn entries_without_room_for_all_are_not_written() {
         assert_eq!((numbers, sizes), (expected.numbers, expected.sizes));
         assert!(entries.iter().all(|&byte| byte == BYTE_BEFORE));
     }
+}
+
+/// The adds that fill a table: every type row, every parameter and every term row.
+fn filling_calls() -> Vec<Call> {
+    let types = (0..Table::TYPE_LIMIT).map(|i| format!("T,{i},ANY"));
+    let params = (0..Table::PARAMETER_LIMIT).map(|p| format!("P,{p},g{p},{p}"));
+    let terms = (0..Table::TERM_LIMIT).map(|i| format!("E,{i},NUM,{i}"));
+    types.chain(params).chain(terms).map(|line| Call::Add(line.into_bytes())).collect()
+}
+
+#[test]
+fn a_table_is_filled_in_well_under_a_millisecond() {
+    let calls = filling_calls();
+    let script = script(&mut Random::seeded(0), &calls);
+    let mut numbers = vec![0; calls.len()];
+    let mut entries = vec![0; ALL_ENTRIES_BYTES];
+    let mut shortest = Duration::MAX;
+    for _ in 0..200 {
+        let start = Instant::now();
+        run_calls(&script, &mut numbers, &mut entries);
+        shortest = shortest.min(start.elapsed());
+    }
+    assert!(numbers.iter().all(|&number| number == 0));
+    // Written past the test's capture, so that every run of the tests shows it.
+    writeln!(std::io::stdout(), "{} adds: {shortest:?}", calls.len()).unwrap();
+    assert!(shortest < Duration::from_millis(1), "{} adds took {shortest:?}", calls.len());
 }
