@@ -9,13 +9,12 @@ use lib.ListN.{length}
 use borrow.Author.Tests.{eqb-true, eq-eqb}
 use Rattle.model.specs.Lists.{contains}
 use Rattle.model.specs.Machine.{Machine, termAt, children, binds}
-use Rattle.model.specs.Closed.{Beneath, itself, child}
+use Rattle.model.specs.Closed.{Beneath, itself, child, Inside}
 use Rattle.model.specs.WellFormed.{TermStands, WellFormed}
 use Rattle.model.specs.declared.Term.{Term}
 use Rattle.model.specs.declared.Term.the-variants.{Lam, App, Op, Var, Num, Enc}
 use Rattle.table.proofs.Tests.{or-cases}
 use Rattle.closed.specs.Members.{member}
-use Rattle.closed.specs.Decides.{Inside}
 use Rattle.closed.proofs.Bits.{none-member}
 
 -- The number is one of one or of two.

@@ -12,7 +12,7 @@ use lib.Seq.{getD-set-same, getD-set-other}
 use borrow.Author.Tests.{eqb-true, eqb-false, eq-eqb, not-true, not-false}
 use Rattle.model.specs.Lists.{allOf, contains}
 use Rattle.model.specs.Machine.{Machine, termAt, children, binds, used}
-use Rattle.model.specs.Closed.{Closed}
+use Rattle.model.specs.Closed.{Closed, Inside}
 use Rattle.model.specs.WellFormed.{TermStands, WellFormed}
 use Rattle.model.specs.declared.TermRow.{TermRow}
 use Rattle.model.specs.declared.Term.{Term}
@@ -27,7 +27,7 @@ use Rattle.table.specs.declared.term.Children.the-variants.{One, Two}
 use Rattle.table.proofs.Entries.{no-row, row-at}
 use Rattle.closed.specs.Members.{member}
 use Rattle.closed.specs.Reads.{reads}
-use Rattle.closed.specs.Decides.{Inside, Tree, DecidesTree}
+use Rattle.closed.specs.Decides.{Tree, DecidesTree}
 use Rattle.closed.proofs.Scope.{Scope, scope-step, scope-last, parent-above}
 
 -- One value stored at each of some places.

@@ -4,17 +4,13 @@ use mathlib.Core.Bool.{Bool, true, false}
 use mathlib.Core.Path.{_≡_}
 use lib.ListN.{length}
 use Rattle.model.specs.Machine.{Machine, termAt, used}
-use Rattle.model.specs.Closed.{Closed, Beneath}
-use Rattle.model.specs.declared.Term.the-variants.{Lam, Var}
+use Rattle.model.specs.Closed.{Closed, Inside}
+use Rattle.model.specs.declared.Term.the-variants.{Var}
 
 -- The answer is that of document 01's condition.
 pub record Decides (m : Machine) (answer : Bool) : Type 0 where
   pub closed : answer ≡ true → Closed m
   pub not-closed : answer ≡ false → Closed m → ⊥
-
--- A row inside the body of the LAM that binds the parameter.
-abbrev pub Inside : Machine → ℕ → ℕ → Type 0
-Inside m p v = (i : ℕ) × (b : ℕ) × (i < length (m .terms)) × (termAt m i ≡ Lam p b) × Beneath m b v
 
 -- The part of the condition that speaks of the tree: "every term row but the last is a child", and "every VAR stands inside the body ..".
 pub record Tree (m : Machine) : Type 0 where

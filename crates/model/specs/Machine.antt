@@ -27,15 +27,25 @@ pub record Machine : Type 0 where
 abbrev pub freshMachine : Machine
 freshMachine = record { types = []; params = []; terms = [] }
 
--- The entry with a number. None is asked for past the end of its list, where these have a row that stands for nothing.
+-- The entry of a list with a number. None is asked for past the end of a list, where these have a row that stands for nothing.
+abbrev pub formIn : List TypeRow → ℕ → TypeForm
+formIn types t = getD types t (record { form = Int }) .form
+
+abbrev pub paramIn : List Param → ℕ → Param
+paramIn params p = getD params p (record { qualifier = 0; typerow = 0 })
+
+abbrev pub termIn : List TermRow → ℕ → Term
+termIn terms i = getD terms i (record { term = Lam 0 0 }) .term
+
+-- The machine's entry with a number.
 abbrev pub typeAt : Machine → ℕ → TypeForm
-typeAt m t = getD (m .types) t (record { form = Int }) .form
+typeAt m t = formIn (m .types) t
 
 abbrev pub paramAt : Machine → ℕ → Param
-paramAt m p = getD (m .params) p (record { qualifier = 0; typerow = 0 })
+paramAt m p = paramIn (m .params) p
 
 abbrev pub termAt : Machine → ℕ → Term
-termAt m i = getD (m .terms) i (record { term = Lam 0 0 }) .term
+termAt m i = termIn (m .terms) i
 
 -- "A row's children are the rows that it names as `b`, `f`, `a`, `l` or `r`."
 abbrev pub children : Term → List ℕ

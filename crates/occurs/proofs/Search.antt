@@ -14,7 +14,7 @@ use Rattle.forest.proofs.Links.{by-eq}
 use Rattle.graph.specs.Types.{kindAt, argument, result, TypeClasses, Reads}
 use Rattle.graph.specs.Search.{Finite, under, leaf, node, Searched}
 use Rattle.occurs.specs.Marks.{markAt, unseen, size, Way, Kept, Walked, Between}
-use Rattle.occurs.proofs.Tally.{tally-less}
+use Rattle.graph.proofs.Tally.{tally-less}
 use Rattle.occurs.proofs.Readings.{TypePart, reads-root, smaller-part}
 use Rattle.occurs.proofs.Marks.{kept-none, marked-finite}
 

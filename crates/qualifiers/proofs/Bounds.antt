@@ -8,12 +8,11 @@ use lib.ListN.{set, length-set}
 use lib.Seq.{getD-set-same, getD-set-other}
 use Rattle.scheme.specs.Order.{atOrBelow}
 use Rattle.scheme.specs.Meet.{meetOf}
-use Rattle.scheme.proofs.Order.{reflexive}
+use Rattle.scheme.proofs.Order.{reflexive, below-code, below-below}
 use Rattle.scheme.proofs.Meets.{meet-code, meet-left, meet-right, meet-greatest}
 use Rattle.forest.specs.Forest.{up, Reach, here, further, Found}
 use Rattle.forest.proofs.Links.{by-eq, reach-same, up-same, up-other, forest-set}
 use Rattle.qualifiers.specs.Classes.{boundAt, Classes, Bounded, Restricted, Tested}
-use Rattle.qualifiers.proofs.Below.{below-code, below-below}
 
 -- The bound of the root r was met with m, and no other changed.
 pub record Lowered (p b b′ : List ℕ) (r m : ℕ) : Type 0 where

@@ -14,7 +14,7 @@ use Rattle.scheme.proofs.Order.{reflexive, rand-greatest}
 use Rattle.forest.specs.Forest.{up, Linked}
 use Rattle.forest.proofs.Links.{by-eq}
 use Rattle.qualifiers.specs.Classes.{boundAt, Classes, Constant, Bounded, Greatest}
-use Rattle.qualifiers.proofs.Below.{below-below}
+use Rattle.scheme.proofs.Order.{below-below}
 
 -- a is the greatest qualifier that a reading within the bounds gives the node x.
 pub record Most (p b : List ℕ) (x a : ℕ) : Type 0 where

@@ -8,35 +8,14 @@ use mathlib.Core.Path.{_≡_, refl, sym, ap, subst, _∙_}
 use lib.Dec.{eqb}
 use borrow.Author.Tests.{ne-eqb}
 use Rattle.scheme.specs.Qualifier.{Qualifier, code, qualifier}
-use Rattle.scheme.specs.Order.{above, climbs, atOrBelow}
+use Rattle.scheme.specs.Order.{atOrBelow}
 use Rattle.scheme.specs.Operation.{highestOf}
 use Rattle.scheme.proofs.Qualifier.{qualifier-code, code-qualifier}
+use Rattle.scheme.proofs.Order.{below-code}
 use Rattle.scheme.proofs.Operation.{highest-code}
 use Rattle.model.specs.Typing.{Rules}
 use Rattle.model.specs.Strength.{whole, unordered, erased, six}
 use Rattle.model.proofs.Weaker.{Weakening}
-
--- Nothing is above a number that is no code.
-above-past : (n : ℕ) → above (suc (suc (suc (suc (suc (suc n)))))) ≡ []
-above-past n = refl
-
-above-none : (a : ℕ) → 6 ≤ a → above a ≡ []
-above-none a h =
-    let e : suc (suc (suc (suc (suc (suc (a - 6)))))) ≡ a = omega arith in
-    subst (λ (n : ℕ). above n ≡ []) e (above-past (a - 6))
-
--- What is at or below a code is a code.
-pub below-code : (a b : ℕ) → b < 7 → atOrBelow a b ≡ true → a < 7
-unfolding atOrBelow
-below-code a b h e = go (decLt a 7)
-  where
-    go : Dec (a < 7) → a < 7
-    go (yes low) = low
-    go (no high) =
-        let none : above a ≡ [] = above-none a (omega arith) in
-        let apart : eqb a b ≡ false = ne-eqb a b (λ same. omega arith) in
-        let z : false ≡ true = rw (apart, none) at e in
-        absurd (false≢true z)
 
 -- The whole rules, those without "at or below", and those with one qualifier only, over numbers.
 abbrev pub numbered : Rules

@@ -6,6 +6,7 @@ use mathlib.Core.Path.{_≡_, refl, sym, ap, subst, _∙_}
 use lib.ListN.{length, getD, take, length-take}
 use lib.Seq.{getD-take}
 use borrow.Author.Count.{below-more}
+use Rattle.model.specs.Machine.{formIn, paramIn, termIn}
 use Rattle.model.specs.WellFormed.{WellFormed, TypeStands, TermStands}
 use Rattle.model.specs.declared.TypeForm.{TypeForm}
 use Rattle.model.specs.declared.TypeForm.the-variants.{Int, Any, Arrow}
@@ -16,7 +17,7 @@ use Rattle.model.specs.declared.Term.{Term}
 use Rattle.model.specs.declared.Term.the-variants.{Lam, App, Op, Var, Num, Enc}
 use Rattle.graph.specs.Types.{partAt, Parts}
 use Rattle.setup.specs.Descriptors.{HasParts, Describes, machineOf, Described}
-use Rattle.setup.specs.Passes.{formIn, paramIn, termIn, DescribesForm, DescribesTerm, HasNodes, FormsStand, TermsHaveNodes, Only, FormsDescribed, TermsDescribed, FormsKept}
+use Rattle.setup.specs.Passes.{DescribesForm, DescribesTerm, HasNodes, FormsStand, TermsHaveNodes, Only, FormsDescribed, TermsDescribed, FormsKept}
 
 -- What is said of a descriptor holds as long as its parts stay.
 abbrev Same : ℕ → List ℕ → List ℕ → Type 0

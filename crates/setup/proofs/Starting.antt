@@ -10,12 +10,12 @@ use lib.Seq.{getD-set-same, getD-set-other, getD-take}
 use borrow.Author.Count.{below-none, below-more}
 use borrow.Author.Tests.{lt-ltb, le-ltb, ltb-true, ltb-false}
 use Rattle.forest.proofs.Links.{by-eq}
-use Rattle.model.specs.Machine.{Machine}
+use Rattle.model.specs.Machine.{Machine, formIn}
 use Rattle.model.specs.declared.TypeForm.the-variants.{Int}
 use Rattle.model.specs.declared.TypeRow.{TypeRow}
 use Rattle.qualifiers.specs.Classes.{boundAt}
 use Rattle.setup.specs.Started.{formKind, startKind, Started}
-use Rattle.setup.specs.Passes.{formIn, SelfRooted, Kinds}
+use Rattle.setup.specs.Passes.{SelfRooted, Kinds}
 
 pub rooted-none : SelfRooted 0 (replicate 327 0)
 rooted-none = record { size = length-replicate {A = ℕ} 327 0; own = below-none _ }

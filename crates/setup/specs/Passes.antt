@@ -5,6 +5,7 @@ use mathlib.Core.List.{List}
 use mathlib.Core.Path.{_≡_}
 use lib.Dec.{ltb}
 use lib.ListN.{length, getD}
+use Rattle.model.specs.Machine.{formIn, paramIn, termIn}
 use Rattle.model.specs.WellFormed.{TypeStands, ParamStands}
 use Rattle.model.specs.declared.TypeForm.{TypeForm}
 use Rattle.model.specs.declared.TypeForm.the-variants.{Int, Any, Arrow}
@@ -18,16 +19,6 @@ use Rattle.graph.specs.Types.{partAt, kindAt, Parts}
 use Rattle.readings.specs.Nodes.{parameterOf}
 use Rattle.setup.specs.Descriptors.{HasParts, Describes}
 use Rattle.setup.specs.Started.{formKind}
-
--- The entries of the arrays, with the same row past the end as in a machine.
-abbrev pub formIn : List TypeRow → ℕ → TypeForm
-formIn types x = getD types x (record { form = Int }) .form
-
-abbrev pub paramIn : List Param → ℕ → Param
-paramIn params p = getD params p (record { qualifier = 0; typerow = 0 })
-
-abbrev pub termIn : List TermRow → ℕ → Term
-termIn terms i = getD terms i (record { term = Lam 0 0 }) .term
 
 -- Descriptor x is the arrow that type row x is.
 abbrev pub DescribesForm : List ℕ → ℕ → TypeForm → Type 0

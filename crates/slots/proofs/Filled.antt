@@ -8,14 +8,14 @@ use lib.Dec.{ltb}
 use lib.ListN.{length, getD, take, replicate, length-take, getD-replicate}
 use lib.Seq.{getD-take}
 use borrow.Author.Tests.{lt-ltb}
-use Rattle.model.specs.Machine.{Machine, paramAt}
+use Rattle.model.specs.Machine.{Machine, paramAt, paramIn}
 use Rattle.model.specs.Strength.{six}
 use Rattle.model.specs.Inference.{Slot, variable, param, row, Listed, mentions}
 use Rattle.model.specs.declared.TypeRow.{TypeRow}
 use Rattle.model.specs.declared.Param.{Param}
 use Rattle.readings.specs.Nodes as Nodes
 use Rattle.report.specs.Codes as Codes
-use Rattle.slots.specs.Filling.{inTypes, inParams, VariablesFilled, SlotsFilled, paramIn}
+use Rattle.slots.specs.Filling.{inTypes, inParams, VariablesFilled, SlotsFilled}
 use Rattle.slots.specs.Filled.{Filled}
 use Rattle.slots.proofs.Variables.{both-filled}
 

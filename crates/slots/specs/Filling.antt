@@ -31,7 +31,3 @@ pub record VariablesFilled (test : ℕ → Bool) (words before after : List ℕ)
 pub record SlotsFilled (count : ℕ) (qualifier type : ℕ → ℕ) (words kinds slotWords slotShapes : List ℕ) : Type 0 where
   pub worded : (i : ℕ) → i < count → getD slotWords i 0 ≡ getD words (qualifier i) 0
   pub shaped : (i : ℕ) → i < count → shapeOfCode (getD slotShapes i 0) ≡ shapeOf (getD kinds (type i) 0)
-
--- The parameter with a number.
-abbrev pub paramIn : List Param → ℕ → Param
-paramIn params p = getD params p (record { qualifier = 0; typerow = 0 })

@@ -6,11 +6,11 @@ ghost use mathlib.Core.Path.{_≡_};
 ghost use Prim.Native.Nat.{ℕ, _+_, _<_, _≤_};
 ghost use lib.Dec.{eqb};
 ghost use lib.ListN.{length, getD, set, take};
-ghost use Rattle.model.specs.Machine.{Machine};
+ghost use Rattle.model.specs.Machine.{Machine, paramIn};
 ghost use Rattle.model.specs.WellFormed.{WellFormed};
 ghost use Rattle.readings.specs.Nodes.{shapeOf};
 ghost use Rattle.report.specs.Codes.{codesOf, shapeOfCode};
-ghost use Rattle.slots.specs.Filling.{inForm, inTypes, inParams, VariablesFilled, SlotsFilled, paramIn};
+ghost use Rattle.slots.specs.Filling.{inForm, inTypes, inParams, VariablesFilled, SlotsFilled};
 ghost use Rattle.slots.specs.Filled.{Filled};
 
 // The shape's code of a kind.

@@ -7,7 +7,7 @@ use mathlib.Core.Logic.{_⊎_, inl, inr}
 use mathlib.Core.Path.{_≡_, refl, sym, ap, subst, subst₂, _∙_}
 use lib.ListN.{length, getD, take}
 use Rattle.scheme.specs.Order.{atOrBelow}
-use Rattle.model.specs.Machine.{Machine, termAt}
+use Rattle.model.specs.Machine.{Machine, termIn, termAt}
 use Rattle.model.specs.Typing.{Ty}
 use Rattle.model.specs.Inference.{Cause}
 use Rattle.model.specs.declared.Param.{Param}
@@ -20,7 +20,7 @@ use Rattle.readings.specs.Nodes.{RowHolds, RowFits, parameterOf}
 use Rattle.rows.specs.Steps.{Extended, Parted, Stepped}
 use Rattle.rows.specs.declared.Verdict.{Verdict}
 use Rattle.solver.specs.State.{After}
-use Rattle.solver.specs.Runs.{paramIn, termIn, Fails, Judges, RowsOf, Ran, Finishes, Ended}
+use Rattle.solver.specs.Runs.{Fails, Judges, RowsOf, Ran, Finishes, Ended}
 use Rattle.solver.specs.declared.Run.{Run}
 use Rattle.solver.specs.declared.Run.the-variants.{Whole, Stopped}
 use Rattle.solver.proofs.Progress.{Row, Limit, after-more}

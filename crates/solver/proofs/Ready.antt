@@ -21,7 +21,7 @@ use Rattle.readings.specs.Nodes.{parameterOf}
 use Rattle.readings.proofs.Lines.{lines-typable}
 use Rattle.setup.specs.Descriptors.{machineOf, Describes, Described, rowQualifier, rowTyperow}
 use Rattle.rows.specs.Rows.{RowStands}
-use Rattle.solver.specs.Runs.{termIn, Fails, RowsOf, RowReady, Ran}
+use Rattle.solver.specs.Runs.{Fails, RowsOf, RowReady, Ran}
 use Rattle.solver.specs.declared.Run.the-variants.{Whole}
 
 -- No rows at all: the lines alone have a typing.

@@ -4,16 +4,14 @@ use mathlib.Core.Bool.{true}
 use mathlib.Core.List.{List}
 use mathlib.Core.Logic.{_⊎_}
 use mathlib.Core.Path.{_≡_}
-use lib.ListN.{length, getD, take}
+use lib.ListN.{length, take}
 use Rattle.scheme.specs.Order.{atOrBelow}
-use Rattle.model.specs.Machine.{Machine, termAt}
+use Rattle.model.specs.Machine.{Machine, paramIn, termIn, termAt}
 use Rattle.model.specs.WellFormed.{WellFormed}
 use Rattle.model.specs.Typing.{Ty, Typable}
 use Rattle.model.specs.Strength.{whole, six}
 use Rattle.model.specs.Inference.{Cause, Refusal, Accepted}
 use Rattle.model.specs.declared.Param.{Param}
-use Rattle.model.specs.declared.Term.{Term}
-use Rattle.model.specs.declared.Term.the-variants.{Lam}
 use Rattle.model.specs.declared.TermRow.{TermRow}
 use Rattle.graph.specs.Types.{Reads}
 use Rattle.graph.specs.Search.{Finite}
@@ -28,14 +26,6 @@ use Rattle.solver.specs.declared.Run.{Run}
 use Rattle.solver.specs.declared.Run.the-variants.{Whole, Stopped}
 use Rattle.solver.specs.declared.Answer.{Answer}
 use Rattle.solver.specs.declared.Answer.the-variants.{Placed, Refused}
-
--- The parameter with a number, of those that stand.
-abbrev pub paramIn : List Param → ℕ → ℕ → Param
-paramIn params count p = getD (take count params) p (record { qualifier = 0; typerow = 0 })
-
--- The term of a row.
-abbrev pub termIn : List TermRow → ℕ → Term
-termIn terms i = getD terms i (record { term = Lam 0 0 }) .term
 
 -- The rows up to k have no typing, and the number says why.
 abbrev pub Fails : Machine → ℕ → ℕ → Type 0
@@ -79,8 +69,8 @@ pub record RowsOf (m : Machine) (params : List Param) (count : ℕ) (terms : Lis
 -- What each of the first rows asks of its nodes and its descriptor.
 abbrev pub RowReady : List Param → ℕ → List TermRow → List ℕ → ℕ → Type 0
 RowReady params count terms kids i =
-    RowStands i (termIn terms i) (paramIn params count (parameterOf (termIn terms i)) .qualifier) (paramIn params count (parameterOf (termIn terms i)) .typerow)
-    × Describes kids i (termIn terms i) (paramIn params count (parameterOf (termIn terms i)) .qualifier) (paramIn params count (parameterOf (termIn terms i)) .typerow)
+    RowStands i (termIn terms i) (paramIn (take count params) (parameterOf (termIn terms i)) .qualifier) (paramIn (take count params) (parameterOf (termIn terms i)) .typerow)
+    × Describes kids i (termIn terms i) (paramIn (take count params) (parameterOf (termIn terms i)) .qualifier) (paramIn (take count params) (parameterOf (termIn terms i)) .typerow)
 
 -- A run from a state that stands for no rows yet, for every machine that the arrays hold.
 abbrev pub RunFrom : (params : List Param) (count : ℕ) (terms : List TermRow) (kids u₀ k₀ p₀ b₀ u k p b : List ℕ) (rows : ℕ) → Run → Type 0

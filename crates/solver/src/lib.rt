@@ -7,7 +7,8 @@ use rows::Verdict;
 ghost use mathlib.Core.Path.{_≡_};
 ghost use mathlib.Core.List.{List};
 ghost use Prim.Native.Nat.{ℕ, _+_, _<_, _≤_};
-ghost use lib.ListN.{length};
+ghost use lib.ListN.{length, take};
+ghost use Rattle.model.specs.Machine.{paramIn};
 ghost use Rattle.model.specs.WellFormed.{WellFormed};
 ghost use Rattle.graph.specs.Types.{Parts, TypeClasses};
 ghost use Rattle.qualifiers.specs.Classes.{Classes};
@@ -15,7 +16,7 @@ ghost use Rattle.readings.specs.Nodes.{parameterOf, RowHolds, RowFits};
 ghost use Rattle.setup.specs.Descriptors.{machineOf, Describes, Described};
 ghost use Rattle.rows.specs.Rows.{RowStands};
 ghost use Rattle.rows.specs.Steps.{Stepped};
-ghost use Rattle.solver.specs.Runs.{paramIn, Fails, Judges, Bounds, Finishes, RowReady, RunFrom, Ran, Refuses, Solves};
+ghost use Rattle.solver.specs.Runs.{Fails, Judges, Bounds, Finishes, RowReady, RunFrom, Ran, Refuses, Solves};
 ghost use Rattle.report.specs.Codes.{codesOf};
 
 // A run over the first rows: it went through, or it stopped with a refusal's number at a row.
@@ -47,7 +48,7 @@ fn parameter(term: Term) -> usize
 // The parameter with a number; PLAIN with type row 0 where there is none.
 fn param_at(params: [Param; 64], count: usize, p: usize) -> Param
     requires { ⌜ count ≤ 64 ⌝ }
-    ensures { λ r. ⌜ r ≡ paramIn params count p ⌝ }
+    ensures { λ r. ⌜ r ≡ paramIn (take count params) p ⌝ }
 {
     if p < count {
         return params[p];
@@ -72,8 +73,8 @@ fn take_row(
     left: &mut [u16; 704],
     right: &mut [u16; 704],
 ) -> Verdict
-    requires { ⌜ count ≤ 64 ⌝ ∗ ⌜ TypeClasses (now up) (now kind) ⌝ ∗ ⌜ Parts (now kids) ⌝ ∗ ⌜ Classes (now parent) (now bound) ⌝ ∗ ⌜ RowStands i (row .term) (paramIn params count (parameterOf (row .term)) .qualifier) (paramIn params count (parameterOf (row .term)) .typerow) × Describes (now kids) i (row .term) (paramIn params count (parameterOf (row .term)) .qualifier) (paramIn params count (parameterOf (row .term)) .typerow) ⌝ }
-    ensures { λ r. ⌜ Stepped (now (kids .entry)) (now (up .entry)) (now (kind .entry)) (now (parent .entry)) (now (bound .entry)) (now (up .exit)) (now (kind .exit)) (now (parent .exit)) (now (bound .exit)) (RowHolds i (row .term) (paramIn params count (parameterOf (row .term)) .qualifier) (paramIn params count (parameterOf (row .term)) .typerow)) (RowFits (row .term)) r ⌝ }
+    requires { ⌜ count ≤ 64 ⌝ ∗ ⌜ TypeClasses (now up) (now kind) ⌝ ∗ ⌜ Parts (now kids) ⌝ ∗ ⌜ Classes (now parent) (now bound) ⌝ ∗ ⌜ RowStands i (row .term) (paramIn (take count params) (parameterOf (row .term)) .qualifier) (paramIn (take count params) (parameterOf (row .term)) .typerow) × Describes (now kids) i (row .term) (paramIn (take count params) (parameterOf (row .term)) .qualifier) (paramIn (take count params) (parameterOf (row .term)) .typerow) ⌝ }
+    ensures { λ r. ⌜ Stepped (now (kids .entry)) (now (up .entry)) (now (kind .entry)) (now (parent .entry)) (now (bound .entry)) (now (up .exit)) (now (kind .exit)) (now (parent .exit)) (now (bound .exit)) (RowHolds i (row .term) (paramIn (take count params) (parameterOf (row .term)) .qualifier) (paramIn (take count params) (parameterOf (row .term)) .typerow)) (RowFits (row .term)) r ⌝ }
 {
     let term = row.term;
     let p = parameter(term);

@@ -11,7 +11,7 @@ use Rattle.model.specs.Typing.{Ty, int}
 use Rattle.forest.specs.Forest.{up, Forest, Linked, Reach, here, further, Found}
 use Rattle.forest.proofs.Links.{by-eq, up-same, up-other, forest-set}
 use Rattle.graph.specs.Types.{kindAt, arrowOf, TypeClasses, Reads, roots}
-use Rattle.unification.proofs.Tally.{tally-most, tally-mono, tally-less}
+use Rattle.graph.proofs.Tally.{tally-most, tally-mono, tally-less}
 
 -- A type is as a kind says.
 pub record Has {Q : Type 0} (kids : List ℕ) (t : ℕ → Ty Q) (v : ℕ → Q) (m : ℕ) (τ : Ty Q) : Type 0 where

@@ -1,4 +1,3 @@
-pub mod Tally
 pub mod Classes
 pub mod Merging
 pub mod Noting
