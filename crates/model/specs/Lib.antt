@@ -10,3 +10,4 @@ pub mod Strength
 pub mod Inference
 pub mod Report
 pub mod Session
+pub mod Text

@@ -5,16 +5,17 @@ use mathlib.Core.List.{List, _++_}
 use mathlib.Core.Path.{_≡_, refl, _∙_}
 use lib.ListN.{length}
 use lib.Seq.{sets-eq}
+use Rattle.model.specs.Lists.{bytes}
 use Rattle.model.specs.Machine.{Machine}
 use Rattle.model.specs.Report.{lines, variableLine, paramLine, rowLine, report}
 use Rattle.report.specs.Codes.{Codes, wordOf, shapeOf}
-use Rattle.report.specs.Writing.{Room, Wrote, countsText, variableText, slotText, variableAt, slotAt}
+use Rattle.report.specs.Writing.{Room, Wrote, pairText, variableText, slotText, variableAt, slotAt}
 use Rattle.report.specs.Written.{Matches, reportOf, Written}
 use Rattle.report.proofs.Writing.{room-first, room-rest, wrote-both}
 
 unfoldable pub text : Codes → ℕ → ℕ → List ℕ
 text c params rows =
-    countsText params rows
+    pairText (bytes "OK") params rows
     ++ lines (variableAt (c .variables)) 0 64
     ++ lines (slotAt 80 (c .paramWords) (c .paramShapes)) 0 params
     ++ lines (slotAt 69 (c .rowWords) (c .rowShapes)) 0 rows
@@ -30,16 +31,16 @@ module _ (c : Codes) (params rows : ℕ) (m : Machine) (matched : Matches m c pa
   variable-same k h = rw (matched .listed k h)
 
   pub is-report : reportOf m c ≡ text c params rows
-  unfolding report text countsText paramLine rowLine slotText
+  unfolding report text pairText paramLine rowLine slotText
   is-report = rw (matched .params-counted, matched .rows-counted, lines-same _ _ 0 64 variable-same)
 
 -- The four parts of the text in turn: each has room once those before it are written, and with the last of them the report is written.
 module _ (c : Codes) (params rows : ℕ) {l : List ℕ} (room : Room l 0 (text c params rows)) where
-  pub counts-room : Room l 0 (countsText params rows)
+  pub counts-room : Room l 0 (pairText (bytes "OK") params rows)
   unfolding text
   counts-room = room-first _ (room-first _ (room-first _ room))
 
-  module _ {l₁ : List ℕ} {i₁ : ℕ} (counts : Wrote l 0 (countsText params rows) l₁ i₁) where
+  module _ {l₁ : List ℕ} {i₁ : ℕ} (counts : Wrote l 0 (pairText (bytes "OK") params rows) l₁ i₁) where
     pub variables-room : Room l₁ i₁ (lines (variableAt (c .variables)) 0 64)
     unfolding text
     variables-room = room-rest _ (room-first _ (room-first _ room)) counts

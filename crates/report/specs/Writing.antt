@@ -26,9 +26,9 @@ pub record Spells (array : List ℕ) (size : ℕ) (word : List ℕ) : Type 0 whe
   pub bytes : take size array ≡ word
   pub room : size ≤ length array
 
--- `OK,parameters,rows`
-unfoldable pub countsText : ℕ → ℕ → List ℕ
-countsText params rows = line (bytes "OK" ∷ decimal params ∷ decimal rows ∷ [])
+-- `OK,parameters,rows`, and the other lines of a word and two numbers
+unfoldable pub pairText : List ℕ → ℕ → ℕ → List ℕ
+pairText word a b = line (word ∷ decimal a ∷ decimal b ∷ [])
 
 -- `G,k,word`, or nothing where the code is no word's
 unfoldable pub variableText : ℕ → ℕ → List ℕ

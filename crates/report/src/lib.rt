@@ -2,11 +2,12 @@
 ghost use mathlib.Core.List.{[], _∷_, _++_};
 ghost use Prim.Native.Nat.{_+_, _≤_, _<_};
 ghost use lib.ListN.{length, take};
+ghost use Rattle.model.specs.Lists.{bytes};
 ghost use Rattle.model.specs.Number.{decimal};
 ghost use Rattle.model.specs.Word.{qualifierWord};
 ghost use Rattle.model.specs.Report.{lines, shapeWord};
 ghost use Rattle.report.specs.Codes.{shapeOfCode, codesOf};
-ghost use Rattle.report.specs.Writing.{Room, Wrote, Spells, countsText, variableText, slotText, variableAt, slotAt};
+ghost use Rattle.report.specs.Writing.{Room, Wrote, Spells, pairText, variableText, slotText, variableAt, slotAt};
 ghost use Rattle.report.specs.Written.{Written};
 
 // A word of the report: bytes that begin with it, and how many of them it has.
@@ -105,14 +106,22 @@ fn write_shape(buffer: &mut [u8], at: usize, code: u8, end: u8) -> usize
     write_word(buffer, at, word, end)
 }
 
+// Writes a line of a word and two numbers.
+pub fn write_pair(buffer: &mut [u8], at: usize, word: &[u8], a: usize, b: usize) -> usize
+    requires { ⌜ Room (now buffer) at (pairText (now word) a b) ⌝ }
+    ensures { λ r. ⌜ Wrote (now (buffer .entry)) at (pairText (now (word .entry)) a b) (now (buffer .exit)) r ⌝ }
+{
+    let first = write_field(buffer, at, word, b',');
+    let second = write_number(buffer, first, a, b',');
+    write_number(buffer, second, b, b'\n')
+}
+
 // Writes `OK,parameters,rows`.
 fn write_counts(buffer: &mut [u8], at: usize, params: usize, rows: usize) -> usize
-    requires { ⌜ Room (now buffer) at (countsText params rows) ⌝ }
-    ensures { λ r. ⌜ Wrote (now (buffer .entry)) at (countsText params rows) (now (buffer .exit)) r ⌝ }
+    requires { ⌜ Room (now buffer) at (pairText (bytes "OK") params rows) ⌝ }
+    ensures { λ r. ⌜ Wrote (now (buffer .entry)) at (pairText (bytes "OK") params rows) (now (buffer .exit)) r ⌝ }
 {
-    let first = write_field(buffer, at, b"OK", b',');
-    let second = write_number(buffer, first, params, b',');
-    write_number(buffer, second, rows, b'\n')
+    write_pair(buffer, at, b"OK", params, rows)
 }
 
 // Writes the line of a variable whose code is a word's.

@@ -1,4 +1,4 @@
 pub mod Lists
 pub mod Children
 pub mod Sought
-pub mod Ran
+pub mod Called

@@ -1,0 +1,71 @@
+-- Each exit of an infer call is one of the answers of document 01.
+use Prim.Native.Nat.{ℕ, zero, suc, _≤_, _<_}
+use native.Mathlib.Omega.{arith}
+use mathlib.Core.Bool.{Bool, true, false, not}
+use mathlib.Core.List.{List, [], _∷_, _++_}
+use mathlib.Core.Path.{_≡_, refl, ap, subst, subst₂}
+use lib.ListN.{length, take, drop}
+use Rattle.model.specs.Machine.{Machine}
+use borrow.Author.Tests.{not-true}
+use Rattle.model.specs.Closed.{Closed}
+use Rattle.model.specs.Strength.{six}
+use Rattle.model.specs.Inference.{Slot, Shape, Cause, Refusal, Judged, not-closed, not-typable, typed}
+use Rattle.model.specs.Report.{report}
+use Rattle.model.specs.Session.{Outcome, refusing, reporting, Infers, short, refused, accepted}
+use Rattle.table.specs.Lists.{lists}
+use Rattle.table.specs.declared.Table.{Table}
+use Rattle.closed.specs.Decides.{Decides}
+use Rattle.setup.specs.Descriptors.{machineOf}
+use Rattle.report.specs.Codes.{Codes, wordOf, shapeOf}
+use Rattle.report.specs.Written.{Matches, Written, reportOf}
+use Rattle.solver.specs.Runs.{Solves}
+use Rattle.solver.specs.declared.Answer.the-variants.{Placed}
+use Rattle.inference.specs.Outcome.{outcome}
+use Rattle.inference.specs.declared.Inferred.{Inferred}
+
+-- Taking as many as were taken takes the same.
+take-taken : {A : Type 0} (n : ℕ) (l : List A) → take (length (take n l)) l ≡ take n l
+take-taken zero l = refl
+take-taken (suc n) [] = refl
+take-taken (suc n) (x ∷ l) = ap (λ k. x ∷ k) (take-taken n l)
+
+-- The arrays with the numbers of entries that stand are the table's lists.
+pub same-machine : (t : Table) (a b d : ℕ) → a ≡ length (lists t .types) → b ≡ length (lists t .params) → d ≡ length (lists t .terms) →
+    machineOf (t .types) a (t .params) b (t .terms) d ≡ lists t
+unfolding lists
+same-machine t a b d e f g = rw (e, f, g, take-taken (t .typecount) (t .types), take-taken (t .paramcount) (t .params), take-taken (t .termcount) (t .terms))
+
+-- A refusal's three numbers, with the buffer as it was.
+refuses-is : (r : Inferred) (number row : ℕ) (buffer : List ℕ) → (r .number ≡ number) × (r .row ≡ row) × (r .size ≡ 0) → refusing number row buffer ≡ outcome r buffer
+refuses-is r number row buffer is = let e = is .0 in let f = is .1 in let g = is .2 in cc
+
+-- A cause's number is none of an accepted call.
+cause-numbered : {m : Machine} {k number : ℕ} → Cause six m k number → ¬ (number ≡ 0)
+cause-numbered (Cause.shapes none) z = omega arith
+cause-numbered (Cause.qualifiers some none) z = omega arith
+cause-numbered (Cause.bounds some) z = omega arith
+
+module _ (m : Machine) (buffer : List ℕ) (r : Inferred) where
+  -- 11
+  pub short-refused : length buffer < 6280 → (r .number ≡ 11) × (r .row ≡ 0) × (r .size ≡ 0) → Infers m buffer (outcome r buffer)
+  short-refused h is = subst (Infers m buffer) (refuses-is r 11 0 buffer is) (short h)
+
+  module _ (h : 6280 ≤ length buffer) where
+    -- 10
+    pub open-refused : (closed : Bool) → Decides m closed → not closed ≡ true → (r .number ≡ 10) × (r .row ≡ 0) × (r .size ≡ 0) → Infers m buffer (outcome r buffer)
+    open-refused closed decides e is =
+        subst (Infers m buffer) (refuses-is r 10 0 buffer is) (refused {word = λ x. 0} {shape = λ x. Shape.int} h (not-closed (decides .not-closed (not-true closed e))) (λ z. omega arith))
+
+    module _ (closed : Closed m) where
+      -- 21 to 23
+      pub row-refused : (number row : ℕ) → Refusal six m number row → (r .number ≡ number) × (r .row ≡ row) × (r .size ≡ 0) → Infers m buffer (outcome r buffer)
+      row-refused number row refusal is =
+          subst (Infers m buffer) (refuses-is r number row buffer is)
+          (refused {word = λ x. 0} {shape = λ x. Shape.int} h (not-typable closed refusal) (cause-numbered (refusal .cause)))
+
+      -- the report
+      pub report-written : (codes : Codes) (after : List ℕ) (params rows size : ℕ) → Solves m codes Placed → length (m .params) ≡ params → length (m .terms) ≡ rows →
+          Written codes params rows buffer after size → (r .number ≡ 0) × (r .row ≡ 0) × (r .size ≡ size) → Infers m buffer (outcome r after)
+      report-written codes after params rows size solves e f written is =
+          let matches = subst₂ (Matches m codes) e f (solves .1) in
+          subst (Infers m buffer) (cc (is .0, is .1, is .2, written .buffer m matches, written .size m matches)) (accepted h (typed closed (solves .0)))

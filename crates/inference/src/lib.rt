@@ -1,0 +1,116 @@
+// Infer: the report of the program that stands in a table, or why there is none.
+ghost use mathlib.Core.Path.{_≡_};
+ghost use Prim.Native.Nat.{ℕ, _≤_, _<_};
+ghost use lib.ListN.{length};
+ghost use Rattle.model.specs.WellFormed.{WellFormed};
+ghost use Rattle.model.specs.Closed.{Closed};
+ghost use Rattle.model.specs.Session.{Infers};
+ghost use Rattle.table.specs.Lists.{lists};
+ghost use Rattle.report.specs.Codes.{codesOf};
+ghost use Rattle.solver.specs.Runs.{Solves};
+ghost use Rattle.inference.specs.Outcome.{outcome};
+use solver::Answer;
+use table::Table;
+
+// What an infer call hands back beside the buffer: the report's length, or a refusal's number and row; 0 for what there is not.
+pub struct Inferred {
+    pub number: u16,
+    pub row: usize,
+    pub size: usize,
+}
+
+// The length of the longest report.
+pub const REPORT: usize = 6280;
+
+// Writes the report of the program that stands in the table, or refuses it and leaves the buffer as it was.
+pub fn infer(table: Table, buffer: &mut [u8]) -> Inferred
+    requires { ⌜ WellFormed (lists table) ⌝ }
+    ensures { λ r. ⌜ Infers (lists table) (now (buffer .entry)) (outcome r (now (buffer .exit))) ⌝ }
+{
+    if buffer.len() < REPORT {
+        return refusal(11, 0);
+    }
+    if !closed::is_closed(table) {
+        return refusal(10, 0);
+    }
+    place(table, buffer)
+}
+
+fn refusal(number: u16, row: usize) -> Inferred
+    ensures { λ r. ⌜ (r .number ≡ number) × (r .row ≡ row) × (r .size ≡ 0) ⌝ }
+{
+    Inferred {
+        number,
+        row,
+        size: 0,
+    }
+}
+
+// The report of a closed program, or the least row that leaves no typing.
+fn place(table: Table, buffer: &mut [u8]) -> Inferred
+    requires { ⌜ WellFormed (lists table) × Closed (lists table) × (6280 ≤ length (now buffer)) ⌝ }
+    ensures { λ r. ⌜ Infers (lists table) (now (buffer .entry)) (outcome r (now (buffer .exit))) ⌝ }
+{
+    let mut variables = [0u8; 64];
+    let mut param_words = [0u8; 64];
+    let mut param_shapes = [0u8; 64];
+    let mut row_words = [0u8; 256];
+    let mut row_shapes = [0u8; 256];
+    match solve(
+        table,
+        &mut variables,
+        &mut param_words,
+        &mut param_shapes,
+        &mut row_words,
+        &mut row_shapes,
+    ) {
+        Answer::Placed => {
+            let size = report::write(
+                buffer,
+                &variables,
+                &param_words,
+                &param_shapes,
+                &row_words,
+                &row_shapes,
+                table.parameters(),
+                table.term_rows(),
+            );
+            Inferred {
+                number: 0,
+                row: 0,
+                size,
+            }
+        }
+        Answer::Refused(number, row) => refusal(number as u16, row),
+    }
+}
+
+// The codes of every slot of a table's program, or the least row that leaves no typing.
+pub fn solve(
+    table: Table,
+    variables: &mut [u8; 64],
+    param_words: &mut [u8; 64],
+    param_shapes: &mut [u8; 64],
+    row_words: &mut [u8; 256],
+    row_shapes: &mut [u8; 256],
+) -> Answer
+    requires { ⌜ WellFormed (lists table) × (0 < length (lists table .terms)) ⌝ }
+    ensures { λ r. ⌜ Solves (lists table) (codesOf (now (variables .exit)) (now («param_words» .exit)) (now («param_shapes» .exit)) (now («row_words» .exit)) (now («row_shapes» .exit))) r ⌝ }
+{
+    let types = table.types;
+    let params = table.params;
+    let terms = table.terms;
+    solver::solve(
+        types,
+        table.type_rows(),
+        params,
+        table.parameters(),
+        terms,
+        table.term_rows(),
+        variables,
+        param_words,
+        param_shapes,
+        row_words,
+        row_shapes,
+    )
+}

@@ -1,0 +1,11 @@
+pub mod Closed
+pub mod Typings
+pub mod Accepted
+pub mod Refused
+pub mod Printed
+pub mod Machines
+pub mod Bounds
+pub mod Operations
+pub mod FreeTypes
+pub mod Refusals
+pub mod Starred

@@ -1,0 +1,71 @@
+-- What is printed of a program whose machine is written out, from facts that compute.
+use Prim.Native.Nat.{ℕ}
+use Prim.Native.String.{String}
+use native.Mathlib.Omega.{arith}
+use mathlib.Core.Bool.{true}
+use mathlib.Core.List.{List, [], _∷_}
+use mathlib.Core.Path.{_≡_, subst}
+use lib.ListN.{length}
+use Rattle.scheme.specs.Qualifier.{Qualifier}
+use Rattle.model.specs.Lists.{bytes}
+use Rattle.model.specs.Number.{numberOf, decimal}
+use Rattle.model.specs.Word.{qualifierOf, schemeOf, operationOf, qualifierWord}
+use Rattle.model.specs.Line.{given, choose, exactly, intLine, anyLine, arrowLine, paramLine, lamLine, appLine, opLine, varLine, numLine, encLine, typeLine, leafLine, termLine, lineOf}
+use Rattle.model.specs.Machine.{Machine, firstFailing, typeRefusal, paramRefusal, termRefusal, settled, entered, added}
+use Rattle.model.specs.Typing.{Ty, Assignment}
+use Rattle.model.specs.Strength.{whole, six}
+use Rattle.model.specs.Inference.{Shape, Refusal, not-typable, typed}
+use Rattle.model.specs.Report as Report
+use Rattle.model.specs.Text.{Load, Prints, load, loadFrom, loaded, refused-inference, reported}
+use Rattle.starred.specs.Starred.{Example, textOf, PrintsOutput}
+use Rattle.starred.proofs.Closed.{closed, closed-sound}
+use Rattle.starred.proofs.Typings.{Equations, equations-typing, typing-equations, uniform}
+use Rattle.starred.proofs.Accepted.{EverySlot, words, shapes, within, accepted}
+use Rattle.starred.proofs.Refused.{refusal-number}
+
+-- What the adds of a program come to, with all that it rests on open to computing.
+unfoldable pub loadOf : List String → Load
+unfolding loadFrom added lineOf typeLine leafLine termLine intLine anyLine arrowLine paramLine lamLine appLine opLine varLine numLine encLine given choose exactly numberOf qualifierOf schemeOf operationOf entered settled firstFailing typeRefusal paramRefusal termRefusal
+loadOf program = load (textOf program)
+
+-- The report is read from two typings with one qualifier for all variables: one type for all type rows takes ANY as INT, the other as an arrow.
+module _ (m : Machine) (q : Qualifier) (t t′ : Ty Qualifier) where
+  abbrev first : Assignment Qualifier
+  first = uniform (whole six) m q t
+
+  abbrev second : Assignment Qualifier
+  second = uniform (whole six) m q t′
+
+  -- Every typing passes the test against the two.
+  abbrev pub AllWithin : Type 0
+  AllWithin = (s : Assignment Qualifier) → Equations (whole six) m (length (m .terms)) s → EverySlot m (within m first second s)
+
+  unfoldable pub reportOf : List ℕ
+  unfolding Report.report Report.lines Report.line Report.variableLine Report.paramLine Report.rowLine Report.shapeWord qualifierWord decimal
+  reportOf = Report.report m (words m first second) (shapes m first second)
+
+-- "a refused inference prints `NO,number,row`"
+unfoldable pub refusalOf : ℕ → ℕ → List ℕ
+unfolding Report.line decimal
+refusalOf number k = Report.line (bytes "NO" ∷ decimal number ∷ decimal k ∷ [])
+
+module _ (example : Example) (m : Machine) (load-is : loadOf (example .program) ≡ loaded m) (closed-is : closed m ≡ true) where
+  pub accepted-prints : (q : Qualifier) (t t′ : Ty Qualifier) →
+      Equations (whole six) m (length (m .terms)) (uniform (whole six) m q t) →
+      Equations (whole six) m (length (m .terms)) (uniform (whole six) m q t′) →
+      AllWithin m q t t′ → reportOf m q t t′ ≡ textOf (example .output) → PrintsOutput example
+  unfolding loadOf reportOf
+  accepted-prints q t t′ typed-first typed-second all-within report-is =
+      let rows : ℕ = length (m .terms) in
+      let answer =
+      accepted m (first m q t t′) (second m q t t′)
+      (equations-typing (whole six) m rows _ typed-first)
+      (equations-typing (whole six) m rows _ typed-second)
+      (λ s typing. all-within s (typing-equations (whole six) m rows s (omega arith) typing)) in
+      subst (Prints (textOf (example .program))) report-is (reported load-is (typed (closed-sound m closed-is) answer))
+
+  pub refused-prints : {number k : ℕ} → Refusal six m number k → refusalOf number k ≡ textOf (example .output) → PrintsOutput example
+  unfolding loadOf refusalOf
+  refused-prints refusal line-is =
+      subst (Prints (textOf (example .program))) line-is
+      (refused-inference {word = λ x. 0} {shape = λ x. Shape.any} load-is (not-typable (closed-sound m closed-is) refusal) (refusal-number refusal))

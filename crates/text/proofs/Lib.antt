@@ -1,0 +1,5 @@
+pub mod Lines
+pub mod Accepted
+pub mod Turns
+pub mod Front
+pub mod Same
