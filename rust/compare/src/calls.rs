@@ -66,6 +66,19 @@ pub fn fitting_calls(random: &mut Random, count: usize) -> Vec<Call> {
     (0..count).map(next).collect()
 }
 
+/// The lines that fill a table. Most of its term rows have children, or bind a parameter, that are looked
+/// for in all rows before: 96 operations join 97 numbers, and 63 LAMs stand around the sum.
+pub fn filling_lines() -> impl Iterator<Item = String> {
+    let types = (0..Table::TYPE_LIMIT).map(|i| format!("T,{i},ANY"));
+    let params = (0..Table::PARAMETER_LIMIT).map(|p| format!("P,{p},g{p},{p}"));
+    let terms = (0..Table::TERM_LIMIT).map(|i| match i {
+        0..97 => format!("E,{i},NUM,{i}"),
+        97..193 => format!("E,{i},OP,ADD,{},{}", i - 97, i - 1),
+        _ => format!("E,{i},LAM,{},{}", i - 193, i - 1),
+    });
+    types.chain(params).chain(terms)
+}
+
 /// One call that fits the table, or nearly fits it.
 fn fitting_call(random: &mut Random, table: &Table) -> Call {
     match random.below(20) {

@@ -20,6 +20,13 @@ mod raw {
             entries: *mut u8,
             entries_length: usize,
         ) -> u64;
+
+        pub fn placement_report(
+            text: *const u8,
+            text_length: usize,
+            report: *mut u8,
+            report_length: usize,
+        ) -> u32;
     }
 }
 
@@ -45,4 +52,12 @@ pub fn run_calls(script: &[u8], numbers: &mut [u16], entries: &mut [u8]) -> u64 
             entries.len(),
         )
     }
+}
+
+/// Runs a whole text on a table of its own; writes the report where the program is accepted.
+///
+/// It returns 100,000 + the report's length, or the refusal's number x 1,000 + its line or row.
+pub fn placement_report(text: &[u8], report: &mut [u8]) -> u32 {
+    // SAFETY: both slices are valid for their lengths during the call, and only `report` is written.
+    unsafe { raw::placement_report(text.as_ptr(), text.len(), report.as_mut_ptr(), report.len()) }
 }

@@ -7,6 +7,8 @@ mod exported;
 pub mod calls;
 pub mod numbers;
 pub mod script;
+pub mod slowest;
+pub mod texts;
 pub mod well_formed;
 
-pub use exported::{read_line, run_calls};
+pub use exported::{placement_report, read_line, run_calls};

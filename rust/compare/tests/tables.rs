@@ -1,6 +1,6 @@
 //! The proved table and the reference table give the same answers and hold the same entries.
 
-use compare::calls::{fitting_calls, program_calls, Call, LONGEST_LINE};
+use compare::calls::{filling_lines, fitting_calls, program_calls, Call, LONGEST_LINE};
 use compare::run_calls;
 use compare::script::{entries, script, sizes, ALL_ENTRIES_BYTES, CALL_BYTES, ENTRY_BYTES};
 use second::generate::Random;
@@ -264,17 +264,9 @@ fn entries_without_room_for_all_are_not_written() {
     }
 }
 
-/// The adds that fill a table: every type row, every parameter and every term row.
-fn filling_calls() -> Vec<Call> {
-    let types = (0..Table::TYPE_LIMIT).map(|i| format!("T,{i},ANY"));
-    let params = (0..Table::PARAMETER_LIMIT).map(|p| format!("P,{p},g{p},{p}"));
-    let terms = (0..Table::TERM_LIMIT).map(|i| format!("E,{i},NUM,{i}"));
-    types.chain(params).chain(terms).map(|line| Call::Add(line.into_bytes())).collect()
-}
-
 #[test]
 fn a_table_is_filled_in_well_under_a_millisecond() {
-    let calls = filling_calls();
+    let calls: Vec<Call> = filling_lines().map(|line| Call::Add(line.into_bytes())).collect();
     let script = script(&mut Random::seeded(0), &calls);
     let mut numbers = vec![0; calls.len()];
     let mut entries = vec![0; ALL_ENTRIES_BYTES];

@@ -15,6 +15,7 @@ pub mod report;
 pub mod rows;
 pub mod solution;
 pub mod table;
+pub mod to_try;
 pub mod typing;
 
 pub use place::{entry, place};

@@ -47,7 +47,7 @@ fn filled(text: &[u8]) -> Result<Table, (u32, u32)> {
 }
 
 /// The lines of a text; what follows the last line feed counts if it is not empty.
-fn lines(text: &[u8]) -> impl Iterator<Item = &[u8]> {
+pub fn lines(text: &[u8]) -> impl Iterator<Item = &[u8]> {
     let with_line_feeds = text.split_inclusive(|&byte| byte == b'\n');
     with_line_feeds.map(|line| line.strip_suffix(b"\n").unwrap_or(line))
 }

@@ -1,10 +1,11 @@
 //! The generator gives a good mix of inputs, and random calls keep the table's promises.
 
 use second::generate::{
-    any_bytes, call_list, changed_line, closed_program, damaged_line, damaged_text, Call, Program,
-    Random,
+    any_bytes, call_list, chain, changed_line, closed_program, damaged_line, damaged_text,
+    doubling, opened, text_of_table, Call, Damage, Opening, Program, Random,
 };
 use second::line::read;
+use second::place::lines;
 use second::rows::TypeRow;
 use second::typing::{judge, Shape};
 use second::{entry, place, Answer, Table};
@@ -152,6 +153,82 @@ fn damaged_lines_are_read_or_not() {
     assert!((0..200).all(|_| any_bytes(&mut random, 70).len() <= 70));
     assert!((0..200).all(|_| damaged_line(&mut random, b"").len() <= 80));
     assert!((0..200).all(|_| damaged_text(&mut random, b"").len() <= 80));
+}
+
+#[test]
+fn each_damage_changes_a_text_in_its_way() {
+    let text = b"T,0,INT\nP,0,AH,0\nE,0,VAR,0\nE,1,LAM,0,0\n";
+    let mut random = Random::seeded(32);
+    for damage in Damage::ALL {
+        for _ in 0..200 {
+            let damaged = damage.of_text(&mut random, text);
+            let longest = lines(&damaged).map(<[u8]>::len).max().unwrap_or(0);
+            let returns = damaged.iter().filter(|&&byte| byte == b'\r').count();
+            let bytes = damaged.len() as isize - text.len() as isize;
+            let added = lines(&damaged).count() as isize - 4;
+            assert!(match damage {
+                Damage::ByteChanged => bytes == 0 && damaged != text,
+                Damage::ByteDropped => bytes == -1,
+                Damage::LineDropped => added == -1,
+                Damage::LineRepeated => added == 1,
+                Damage::LinesSwapped => bytes == 0 && added == 0,
+                Damage::Shortened => text.starts_with(&damaged) && added < 0,
+                Damage::LineFeedDropped => (bytes, added) == (-1, -1),
+                Damage::LineFeedDoubled => (bytes, added) == (1, 1),
+                Damage::LineFeedFirst => damaged == [b"\n", &text[..]].concat(),
+                Damage::CarriageReturn => returns == 1 && bytes == 1,
+                Damage::CarriageReturns => returns == 4 && bytes == 4,
+                Damage::LineOf64Bytes => longest == 64 && added == 0,
+                Damage::LineOf65Bytes => longest == 65 && added == 0,
+                Damage::LineDamaged => true,
+                Damage::FieldChanged =>
+                    added == 0 && read(lines(&damaged).next().unwrap()).is_some(),
+            });
+            assert!(damage.of_text(&mut random, b"").len() <= 1);
+        }
+    }
+}
+
+#[test]
+fn opened_programs_are_accepted_and_not_closed() {
+    let mut random = Random::seeded(33);
+    let mut counts = BTreeMap::new();
+    for program in programs(34, 300) {
+        for opening in Opening::ALL {
+            let Some(lines) = opened(&mut random, &program, opening) else {
+                continue;
+            };
+            *counts.entry(opening).or_insert(0) += 1;
+            assert_eq!(place(lines.join("\n").as_bytes()), b"NO,10,0\n", "for {lines:?}");
+        }
+    }
+    assert!(counts.len() == 4 && counts.values().all(|&count| count > 100), "{counts:?}");
+}
+
+#[test]
+fn the_text_of_a_table_fills_it_again() {
+    for program in programs(35, 100) {
+        let table = program.table();
+        let mut filled = Table::fresh();
+        for line in lines(&text_of_table(&table)) {
+            assert_eq!(filled.add(line), 0);
+        }
+        assert_eq!(filled, table);
+    }
+}
+
+#[test]
+fn all_verdicts_occur_in_deep_and_long_programs() {
+    for generate in [doubling, chain] {
+        let mut random = Random::seeded(36);
+        let mut counts = BTreeMap::new();
+        for _ in 0..400 {
+            let returned = entry(&generate(&mut random), &mut [0; 6280]);
+            let number = if returned > 100_000 { 0 } else { returned / 1_000 };
+            *counts.entry(number).or_insert(0) += 1;
+        }
+        assert!(counts.keys().eq(&[0, 21, 22, 23]), "{counts:?}");
+    }
 }
 
 /// The number that the C entry returns, worked out from what `place` prints.

@@ -3,6 +3,7 @@
 mod common;
 
 use common::{assert_prints, table, text};
+use second::generate::deep::greatest_report;
 use second::{entry, place, Answer};
 
 /// Asserts that the C entry refuses a text with this number and leaves the buffer unchanged.
@@ -20,39 +21,6 @@ fn assert_entry_accepts(text: &[u8], report: &[u8]) {
         assert!(buffer.starts_with(report));
         assert!(buffer[report.len()..].iter().all(|&byte| byte == 0x5A));
     }
-}
-
-/// A program with 64 named variables, 63 parameters and 256 rows, each PLAIN and an arrow.
-///
-/// Row 1 is INT to INT, row 2 takes row 1 to row 1. Parameter 0 has row 1 and parameter 33
-/// has row 2. Parameters 1 to 32 have arrows like row 2, but with two named variables each.
-/// Starting from parameter 0, each of these is applied once and then parameter 33 twice, so
-/// every variable stands against a PLAIN argument or result.
-fn greatest_program() -> Vec<u8> {
-    let mut lines = String::from("T,0,INT T,1,ARROW,PLAIN,0,PLAIN,0 T,2,ARROW,PLAIN,1,PLAIN,1");
-    for pair in 0..32 {
-        let (argument, result) = (2 * pair, 2 * pair + 1);
-        lines += &format!(" T,{},ARROW,g{argument},1,g{result},1", 3 + pair);
-    }
-    for parameter in 0..63 {
-        let type_row = match parameter {
-            1..=32 => 2 + parameter,
-            33 => 2,
-            _ => 1,
-        };
-        lines += &format!(" P,{parameter},PLAIN,{type_row}");
-    }
-    lines += " E,0,VAR,0";
-    for application in 0..96 {
-        let function = if application % 3 == 0 { application / 3 + 1 } else { 33 };
-        let row = 1 + 2 * application;
-        lines += &format!(" E,{row},VAR,{function} E,{},APP,{row},{}", row + 1, row - 1);
-    }
-    for parameter in 0..63 {
-        let row = 193 + parameter;
-        lines += &format!(" E,{row},LAM,{parameter},{}", row - 1);
-    }
-    text(&lines)
 }
 
 /// The report in which every slot is PLAIN and an arrow.
@@ -80,7 +48,7 @@ fn the_greatest_report_is_printed() {
     // 256 rows need an odd number of parameters; 64 parameters with 255 rows give 6262 bytes.
     let expected = all_plain_arrows(64, 63, 256);
     assert_eq!(expected.len(), 6263);
-    let program = greatest_program();
+    let program = text(&greatest_report());
     let printed = place(&program);
     assert_eq!(String::from_utf8_lossy(&printed), String::from_utf8_lossy(&expected));
     assert_entry_accepts(&program, &expected);

@@ -1,4 +1,4 @@
-//! Damaged lines and texts, near the limits of what is accepted.
+//! Damaged lines, near the limits of what is accepted.
 
 use super::goals::any_code;
 use super::random::Random;
@@ -83,27 +83,4 @@ fn other_of_kind(random: &mut Random, field: &[u8]) -> String {
         "LAM" | "APP" | "OP" | "VAR" | "NUM" | "ENC" | "ARROW" => text.to_string(),
         _ => code_text(any_code(random)),
     }
-}
-
-/// A text with one change to its lines or its end.
-pub fn damaged_text(random: &mut Random, text: &[u8]) -> Vec<u8> {
-    let mut lines: Vec<Vec<u8>> = text.split(|&byte| byte == b'\n').map(<[u8]>::to_vec).collect();
-    let (one, other) = (random.below(lines.len()), random.below(lines.len()));
-    match random.below(16) {
-        0 => lines.insert(one, vec![]),
-        1 => {
-            lines.remove(one);
-        }
-        2 => lines.insert(one, lines[other].clone()),
-        3 => lines.swap(one, other),
-        4 => lines.truncate(one),
-        5 => lines[one].push(b'\r'),
-        6 | 7 => lines[one] = damaged_line(random, &lines[one]),
-        _ => lines[one] = changed_line(random, &lines[one]),
-    }
-    let mut damaged = lines.join(&b'\n');
-    if random.one_in(4) {
-        damaged.pop();
-    }
-    damaged
 }

@@ -1,14 +1,23 @@
 //! Reproducible random inputs for comparison tests: programs, damaged lines and texts, calls.
 
 mod calls;
+mod chains;
 mod damage;
 mod goals;
+mod open;
 mod order;
 mod program;
 mod random;
 mod text;
+mod text_damage;
+
+pub mod deep;
 
 pub use calls::{call_list, Call};
-pub use damage::{any_bytes, changed_line, damaged_line, damaged_text};
+pub use chains::{chain, doubling};
+pub use damage::{any_bytes, changed_line, damaged_line};
+pub use open::{opened, Opening};
 pub use program::{closed_program, Program};
 pub use random::Random;
+pub use text::{text_of_lines, text_of_table};
+pub use text_damage::{damaged_text, Damage};

@@ -1,7 +1,22 @@
-//! The lines that declare given rows.
+//! The lines that declare given rows, and texts of lines.
 
 use crate::qualifier::{Qualifier, FIRST_VARIABLE_CODE};
 use crate::rows::{Parameter, QualifiedRow, Term, TypeRow};
+use crate::table::Table;
+
+/// Lines that are separated by white space, as a text in which each is ended by a line feed.
+pub fn text_of_lines(lines: &str) -> Vec<u8> {
+    lines.split_whitespace().flat_map(|line| format!("{line}\n").into_bytes()).collect()
+}
+
+/// The text that declares what a table holds, list after list.
+pub fn text_of_table(table: &Table) -> Vec<u8> {
+    let types = table.types.iter().enumerate().map(|(own, row)| type_line(own, row));
+    let params = table.params.iter().enumerate().map(|(own, row)| parameter_line(own, row));
+    let terms = table.terms.iter().enumerate().map(|(own, row)| term_line(own, row));
+    let lines: Vec<String> = types.chain(params).chain(terms).collect();
+    text_of_lines(&lines.join(" "))
+}
 
 /// The text of a declared qualifier with this code.
 pub fn code_text(code: u8) -> String {

@@ -3,13 +3,8 @@
 // Each test file uses some of these only.
 #![allow(dead_code)]
 
+pub use second::generate::text_of_lines as text;
 use second::{place, Table};
-
-/// The words of a program, separated by white space, as lines ended by a line feed.
-pub fn text(lines: &str) -> Vec<u8> {
-    let lines = lines.split_whitespace();
-    lines.flat_map(|line| format!("{line}\n").into_bytes()).collect()
-}
 
 /// Asserts what `place` prints for a program, both given as words separated by white space.
 pub fn assert_prints(program: &str, expected: &str) {

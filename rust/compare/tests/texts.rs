@@ -1,0 +1,420 @@
+//! The C entry and the reference solver give the same number and the same bytes for the same text.
+
+use compare::calls::filling_lines;
+use compare::placement_report;
+use compare::slowest::Slowest;
+use compare::texts::{closed_text, large_texts, random_text, Kind};
+use second::entry;
+use second::generate::{chain, deep, doubling, text_of_lines, Damage, Random};
+use second::place::lines;
+use second::qualifier::Qualifier;
+use second::report::LONGEST_REPORT;
+use second::rows::TypeRow;
+use second::to_try;
+use second::Table;
+use std::collections::BTreeMap;
+use std::fmt::Debug;
+use std::time::Instant;
+
+/// How many texts of all kinds are compared.
+const TEXTS: usize = 55_000;
+
+/// How many closed tables are compared, and how many of each special kind.
+const TABLES: usize = 20_000;
+const SPECIAL_TABLES: usize = 2_000;
+
+/// How many bytes before and behind a buffer are looked at too.
+const MARGIN: usize = 32;
+
+/// The answers to closed programs: accepted, or the number of a refusal.
+const VERDICTS: [u32; 4] = [0, 21, 22, 23];
+
+/// How long a report buffer is.
+#[derive(Clone, Copy, Debug, PartialEq, Eq, PartialOrd, Ord)]
+enum Room {
+    Zero,
+    One,
+    Shorter,
+    OneTooShort,
+    Exact,
+    Longer,
+}
+
+impl Room {
+    /// All kinds of length.
+    const ALL: [Room; 6] =
+        [Room::Zero, Room::One, Room::Shorter, Room::OneTooShort, Room::Exact, Room::Longer];
+
+    /// A kind of length, mostly one that is long enough.
+    fn random(random: &mut Random) -> Room {
+        match random.below(4) {
+            0 => Room::ALL[random.below(4)],
+            1 => Room::Longer,
+            _ => Room::Exact,
+        }
+    }
+
+    /// A length of this kind.
+    fn length(self, random: &mut Random) -> usize {
+        match self {
+            Room::Zero => 0,
+            Room::One => 1,
+            Room::Shorter => random.between(2, LONGEST_REPORT - 2),
+            Room::OneTooShort => LONGEST_REPORT - 1,
+            Room::Exact => LONGEST_REPORT,
+            Room::Longer => random.between(LONGEST_REPORT + 1, LONGEST_REPORT + 1_000),
+        }
+    }
+}
+
+/// How often each thing occurred.
+struct Counts<T>(BTreeMap<T, usize>);
+
+impl<T> Default for Counts<T> {
+    fn default() -> Counts<T> {
+        Counts(BTreeMap::new())
+    }
+}
+
+impl<T: Ord + Debug> Counts<T> {
+    fn add(&mut self, thing: T) {
+        *self.0.entry(thing).or_insert(0) += 1;
+    }
+
+    fn of(&self, thing: &T) -> usize {
+        self.0.get(thing).copied().unwrap_or(0)
+    }
+
+    /// Asserts that each of these things occurred so often.
+    fn assert_each(&self, things: impl IntoIterator<Item = T>, fewest: usize) {
+        for thing in things {
+            let count = self.of(&thing);
+            assert!(count >= fewest, "{thing:?} occurred {count} times only, in {:?}", self.0);
+        }
+    }
+}
+
+/// What occurred in many comparisons.
+#[derive(Default)]
+struct Tally {
+    /// 0 for accepted, otherwise the refusal's number.
+    answers: Counts<u32>,
+    /// The lines of refused adds, and the rows of refused inferences.
+    lines: Counts<u32>,
+    rows: Counts<u32>,
+    rooms: Counts<Room>,
+    /// The lines of reports without their own numbers, as `P,AH,INT`.
+    slots: Counts<String>,
+    slowest: Slowest,
+}
+
+impl Tally {
+    /// Compares the C entry with the reference on a text and a buffer with random bytes; returns the answer.
+    fn compare(&mut self, random: &mut Random, about: &str, text: &[u8], room: Room) -> u32 {
+        let length = room.length(random);
+        let mut expected = random_bytes(random, length + 2 * MARGIN);
+        let mut found = expected.clone();
+        let number = entry(text, inner(&mut expected));
+        let start = Instant::now();
+        let returned = placement_report(text, inner(&mut found));
+        let time = start.elapsed();
+        assert_eq!(returned, number, "for {about}, {}", shown(text));
+        let different = (0..found.len()).find(|&position| found[position] != expected[position]);
+        if let Some(position) = different {
+            panic!(
+                "byte {} of a buffer of {length} is {} and not {} for {about}, {}",
+                position as isize - MARGIN as isize,
+                found[position],
+                expected[position],
+                shown(text)
+            );
+        }
+        self.slowest.take(text, inner(&mut found), about, time);
+        self.rooms.add(room);
+        self.count(number, inner(&mut expected));
+        number
+    }
+
+    /// Counts what an answer holds.
+    fn count(&mut self, returned: u32, buffer: &[u8]) {
+        let (number, place) = (returned / 1_000, returned % 1_000);
+        match number {
+            1..=8 => self.lines.add(place),
+            21..=23 => self.rows.add(place),
+            10 | 11 => {}
+            _ => {
+                let report = &buffer[..(returned - 100_000) as usize];
+                slots(report).for_each(|slot| self.slots.add(slot));
+                self.answers.add(0);
+                return;
+            }
+        }
+        self.answers.add(number);
+    }
+
+    /// Asserts that each word and each shape was reported so often.
+    fn assert_each_word(&self, fewest: usize) {
+        let words = Qualifier::ALL.map(Qualifier::word);
+        self.slots.assert_each(words.map(|word| format!("G,{word}")), fewest);
+        for shape in ["INT", "ANY", "ARROW"] {
+            self.slots.assert_each(words.map(|word| format!("P,{word},{shape}")), fewest);
+            self.slots.assert_each(words.map(|word| format!("E,{word},{shape}")), fewest);
+        }
+    }
+
+    /// Prints the counts for those who want to see them, and the slowest call for all.
+    fn finish(&self, inputs: &str) {
+        println!("{:?}", self.answers.0);
+        println!("{:?}", self.rooms.0);
+        println!("{:?}", self.slots.0);
+        self.slowest.assert_within_limit(inputs);
+    }
+}
+
+/// The bytes between the margins, which are lent as a report buffer.
+fn inner(bytes: &mut [u8]) -> &mut [u8] {
+    let end = bytes.len() - MARGIN;
+    &mut bytes[MARGIN..end]
+}
+
+/// The lines of a report after the first, without their own numbers.
+fn slots(report: &[u8]) -> impl Iterator<Item = String> {
+    let text = String::from_utf8(report.to_vec()).unwrap();
+    let lines: Vec<String> = text.lines().skip(1).map(str::to_string).collect();
+    lines.into_iter().map(|line| {
+        let mut fields: Vec<&str> = line.split(',').collect();
+        fields.remove(1);
+        fields.join(",")
+    })
+}
+
+/// A text in a message, up to a length that no accepted text has.
+fn shown(text: &[u8]) -> String {
+    text[..text.len().min(15_000)].escape_ascii().to_string()
+}
+
+/// So many bytes of random values.
+fn random_bytes(random: &mut Random, count: usize) -> Vec<u8> {
+    let mut bytes: Vec<u8> =
+        (0..count.div_ceil(8)).flat_map(|_| random.number().to_le_bytes()).collect();
+    bytes.truncate(count);
+    bytes
+}
+
+/// The table that a text fills; each of its lines must be accepted.
+fn table(text: &[u8]) -> Table {
+    let mut table = Table::fresh();
+    for line in lines(text) {
+        assert_eq!(table.add(line), 0, "for the line {}", line.escape_ascii());
+    }
+    table
+}
+
+/// Asserts what the C entry returns and writes with a buffer of this length, whatever stands there before.
+fn assert_answer(about: &str, text: &[u8], length: usize, number: u32, report: &[u8]) {
+    for byte in [0, b'\n', 0xA5] {
+        let mut bytes = vec![byte; length + 2 * MARGIN];
+        assert_eq!(placement_report(text, inner(&mut bytes)), number, "for {about}");
+        let written = String::from_utf8_lossy(&inner(&mut bytes)[..report.len()]);
+        assert_eq!(written, String::from_utf8_lossy(report), "for {about}");
+        bytes.drain(MARGIN..MARGIN + report.len());
+        assert!(bytes.iter().all(|&other| other == byte), "for {about}");
+    }
+}
+
+/// Asserts what the C entry returns and writes for a text with buffers that are long enough.
+fn assert_answers(about: &str, text: &[u8], number: u32, report: &[u8]) {
+    for length in [LONGEST_REPORT, LONGEST_REPORT + 1, 2 * LONGEST_REPORT] {
+        assert_answer(about, text, length, number, report);
+    }
+}
+
+#[test]
+fn program_a_has_its_report_in_full() {
+    let program = b"T,0,ANY\nP,0,g0,0\nE,0,VAR,0\nE,1,VAR,0\nE,2,OP,ADD,0,1\nE,3,LAM,0,2\n";
+    let report = b"OK,1,4\nG,0,AH\nP,0,AH,INT\nE,0,AH,INT\nE,1,AH,INT\nE,2,AH,INT\n\
+                   E,3,PLAIN,ARROW\n";
+    assert_answers("program A", program, 100_074, report);
+    let unended = program.strip_suffix(b"\n").unwrap();
+    assert_answers("program A without its last line feed", unended, 100_074, report);
+}
+
+#[test]
+fn each_program_to_try_is_answered_as_document_01_says() {
+    for program in to_try::all() {
+        let report = program.report().unwrap_or(b"");
+        assert_answers(program.about, &program.text, program.returns, report);
+    }
+}
+
+#[test]
+fn a_short_buffer_is_refused_before_the_text_is_looked_at() {
+    let mut texts: Vec<Vec<u8>> = to_try::all().into_iter().map(|program| program.text).collect();
+    texts.extend([b"\n".to_vec(), b"none of the forms".to_vec()]);
+    for text in texts {
+        for length in [0, 1, 2, 6_278, 6_279] {
+            assert_answer("a short buffer", &text, length, 11_000, b"");
+        }
+    }
+}
+
+#[test]
+fn each_line_of_a_text_is_named() {
+    let lines: Vec<String> = filling_lines().chain(["E,256,NUM,1".to_string()]).collect();
+    assert_answers("a full table and a row", lines.join("\n").as_bytes(), 3_385, b"");
+    for line in 1..=385 {
+        let mut damaged = lines.clone();
+        damaged[line - 1] = String::new();
+        damaged.push("T,0,INT".to_string());
+        let text = damaged.join("\n");
+        assert_answers("an empty line", text.as_bytes(), 1_000 + line as u32, b"");
+    }
+}
+
+#[test]
+fn each_row_of_a_long_sum_is_named() {
+    let sum = deep::long_sum();
+    for leaf in (3..255).step_by(2) {
+        let (variable, row) = (format!("E,{leaf},VAR,0"), leaf as u32 + 1);
+        let encrypted = |scheme: &str| sum.replace(&variable, &format!("E,{leaf},ENC,{scheme},1"));
+        let number = |lines: String| {
+            let mut bytes = [0; LONGEST_REPORT + 2 * MARGIN];
+            placement_report(&text_of_lines(&lines), inner(&mut bytes))
+        };
+        let applied = format!("E,{row},OP,ADD");
+        assert_eq!(number(sum.replace(&applied, &format!("E,{row},APP"))), 21_000 + row);
+        let plain_first = encrypted("AH").replace("E,0,VAR,0", "E,0,NUM,1");
+        assert_eq!(number(plain_first), 22_000 + row);
+        assert_eq!(number(encrypted("MH")), 23_000 + row);
+        assert!(number(encrypted("FHE")) > 100_000);
+    }
+}
+
+#[test]
+fn texts_of_each_kind_are_answered_alike() {
+    let mut random = Random::seeded(1);
+    let mut tally = Tally::default();
+    let (mut kinds, mut by_kind, mut features) =
+        (Counts::default(), Counts::default(), Counts::default());
+    for _ in 0..TEXTS {
+        let (kind, text) = random_text(&mut random);
+        let room = Room::random(&mut random);
+        let returned = tally.compare(&mut random, &format!("{kind:?}"), &text, room);
+        kinds.add(kind);
+        if returned != 11_000 {
+            by_kind.add((kind, if returned > 100_000 { 0 } else { returned / 1_000 }));
+            features_of(&text).for_each(|feature| features.add(feature));
+        }
+    }
+    println!("{:?}\n{:?}\n{:?}", kinds.0, by_kind.0, features.0);
+    kinds.assert_each(Kind::all(), TEXTS / 100);
+    tally.rooms.assert_each(Room::ALL, TEXTS / 20);
+    tally.answers.assert_each([0, 1, 2, 10, 11, 21, 22, 23], TEXTS / 100);
+    tally.answers.assert_each([3, 4, 5, 6, 7, 8], TEXTS / 500);
+    for kind in [Kind::Closed, Kind::NoLastLineFeed, Kind::Damaged(Damage::FieldChanged)] {
+        by_kind.assert_each(VERDICTS.map(|number| (kind, number)), TEXTS / 500);
+    }
+    for kind in Kind::all() {
+        if let Kind::Open(_) = kind {
+            let open = by_kind.of(&(kind, 10));
+            assert!(open >= TEXTS / 200, "{kind:?} occurred {open} times only");
+        }
+    }
+    features.assert_each(FEATURES.iter().map(|&(name, _)| name), TEXTS / 200);
+    assert!(tally.lines.0.len() > 300, "{} lines were named only", tally.lines.0.len());
+    assert!(tally.rows.0.len() > 150, "{} rows were named only", tally.rows.0.len());
+    tally.assert_each_word(TEXTS / 5_500);
+    tally.finish(&format!("{TEXTS} texts"));
+}
+
+/// Something that can be seen in a text, with the test for it.
+type Feature = (&'static str, fn(&[u8]) -> bool);
+
+/// What can be seen in a text.
+const FEATURES: [Feature; 8] = [
+    ("no bytes", <[u8]>::is_empty),
+    ("a last line without line feed", |text| text.last().is_some_and(|&byte| byte != b'\n')),
+    ("an empty line", |text| lines(text).any(<[u8]>::is_empty)),
+    ("an empty first line", |text| text.first() == Some(&b'\n')),
+    ("a carriage return", |text| text.contains(&b'\r')),
+    ("a line of 64 bytes", |text| lines(text).any(|line| line.len() == 64)),
+    ("a line of 65 bytes", |text| lines(text).any(|line| line.len() == 65)),
+    ("more than 385 lines", |text| lines(text).count() > 385),
+];
+
+/// The names of what can be seen in a text.
+fn features_of(text: &[u8]) -> impl Iterator<Item = &'static str> + '_ {
+    FEATURES.iter().filter(|(_, occurs)| occurs(text)).map(|&(name, _)| name)
+}
+
+#[test]
+fn tables_of_each_size_are_answered_alike() {
+    let mut random = Random::seeded(2);
+    let mut tally = Tally::default();
+    let mut sizes = Counts::default();
+    for _ in 0..TABLES {
+        let text = closed_text(&mut random);
+        let table = table(&text);
+        assert!(table.closed());
+        sizes.add(table.terms.len());
+        tally.compare(&mut random, "a closed table", &text, Room::Exact);
+    }
+    sizes.assert_each(1..=Table::TERM_LIMIT, 5);
+    assert_eq!(tally.answers.0.keys().copied().collect::<Vec<u32>>(), VERDICTS);
+    tally.answers.assert_each(VERDICTS, TABLES / 20);
+    tally.assert_each_word(TABLES / 2_000);
+    tally.finish(&format!("{TABLES} closed tables"));
+}
+
+#[test]
+fn tables_with_deep_sharing_are_answered_alike() {
+    let mut random = Random::seeded(3);
+    let mut tally = Tally::default();
+    for _ in 0..SPECIAL_TABLES {
+        let text = doubling(&mut random);
+        let types = table(&text).types;
+        assert_eq!(types.len(), Table::TYPE_LIMIT);
+        assert!((1..types.len()).all(|row| uses_twice(&types[row], row - 1)));
+        tally.compare(&mut random, "deep sharing", &text, Room::Longer);
+    }
+    tally.answers.assert_each(VERDICTS, SPECIAL_TABLES / 50);
+    tally.finish(&format!("{SPECIAL_TABLES} tables with deep sharing"));
+}
+
+/// Tells whether a type row is an arrow from and to another one.
+fn uses_twice(row: &TypeRow, other: usize) -> bool {
+    let parts = row.parts();
+    parts.len() == 2 && parts.iter().all(|part| usize::from(part.type_row) == other)
+}
+
+#[test]
+fn chains_of_256_rows_are_answered_alike() {
+    let mut random = Random::seeded(4);
+    let mut tally = Tally::default();
+    for _ in 0..SPECIAL_TABLES {
+        let text = chain(&mut random);
+        let table = table(&text);
+        assert_eq!((table.terms.len(), table.closed()), (Table::TERM_LIMIT, true));
+        tally.compare(&mut random, "a chain of 256 rows", &text, Room::Exact);
+    }
+    tally.answers.assert_each(VERDICTS, SPECIAL_TABLES / 50);
+    tally.finish(&format!("{SPECIAL_TABLES} chains of 256 rows"));
+}
+
+#[test]
+fn the_worst_texts_are_answered_alike_and_in_time() {
+    let mut random = Random::seeded(5);
+    let mut tally = Tally::default();
+    let filling: Vec<String> = filling_lines().collect();
+    let mut texts = vec![("a full table", filling.join("\n").into_bytes())];
+    texts.extend(deep::all().into_iter().map(|(name, lines)| (name, text_of_lines(&lines))));
+    texts.extend(large_texts());
+    for (name, text) in texts {
+        for room in Room::ALL {
+            tally.compare(&mut random, name, &text, room);
+        }
+    }
+    tally.answers.assert_each([0, 1, 11, 21], 10);
+    tally.answers.assert_each([2, 3, 10, 22], 2);
+    tally.finish("the worst texts");
+}

@@ -1,0 +1,163 @@
+//! Damaged texts, near the limits of what is accepted.
+
+use super::damage::{changed_line, damaged_line};
+use super::random::Random;
+
+/// Bytes that stand in lines or between them, to put in the place of others.
+const FREQUENT: &[u8] = b"0123456789,,,\n\n\r\0 TPEAg";
+
+/// One change to a text.
+#[derive(Clone, Copy, Debug, PartialEq, Eq, PartialOrd, Ord)]
+pub enum Damage {
+    /// A byte has another value.
+    ByteChanged,
+    /// A byte is left out.
+    ByteDropped,
+    /// A line is left out.
+    LineDropped,
+    /// A line stands once more at some place.
+    LineRepeated,
+    /// Two lines have changed places.
+    LinesSwapped,
+    /// The text ends at the end of some line.
+    Shortened,
+    /// Two lines are one.
+    LineFeedDropped,
+    /// An empty line follows some line.
+    LineFeedDoubled,
+    /// The text begins with an empty line.
+    LineFeedFirst,
+    /// A line ends in a carriage return.
+    CarriageReturn,
+    /// All lines end in a carriage return.
+    CarriageReturns,
+    /// A line is filled up to 64 bytes.
+    LineOf64Bytes,
+    /// A line is filled up to 65 bytes.
+    LineOf65Bytes,
+    /// A line has a change to its bytes or its fields.
+    LineDamaged,
+    /// A line has another field of the same kind.
+    FieldChanged,
+}
+
+use Damage::{
+    ByteChanged, ByteDropped, CarriageReturn, CarriageReturns, FieldChanged, LineDamaged,
+    LineDropped, LineFeedDoubled, LineFeedDropped, LineFeedFirst, LineOf64Bytes, LineOf65Bytes,
+    LineRepeated, LinesSwapped, Shortened,
+};
+
+impl Damage {
+    /// All changes.
+    pub const ALL: [Damage; 15] = [
+        ByteChanged, ByteDropped, LineDropped, LineRepeated, LinesSwapped, Shortened,
+        LineFeedDropped, LineFeedDoubled, LineFeedFirst, CarriageReturn, CarriageReturns,
+        LineOf64Bytes, LineOf65Bytes, LineDamaged, FieldChanged,
+    ];
+
+    /// The text with this change at a random place; an empty text may stay as it is.
+    pub fn of_text(self, random: &mut Random, text: &[u8]) -> Vec<u8> {
+        let mut bytes = text.to_vec();
+        let position = random.below(text.len());
+        match self {
+            ByteChanged => {
+                if let Some(byte) = bytes.get_mut(position) {
+                    *byte = other_byte(random, *byte);
+                }
+            }
+            ByteDropped if !text.is_empty() => {
+                bytes.remove(position);
+            }
+            ByteDropped => {}
+            LineFeedDropped => drop_line_feed(random, &mut bytes),
+            LineFeedFirst => bytes.insert(0, b'\n'),
+            _ => return self.of_lines(random, text),
+        }
+        bytes
+    }
+
+    /// The text with this change to one or all of its lines.
+    fn of_lines(self, random: &mut Random, text: &[u8]) -> Vec<u8> {
+        let with_line_feeds = text.split_inclusive(|&byte| byte == b'\n');
+        let mut lines: Vec<Vec<u8>> = with_line_feeds.map(<[u8]>::to_vec).collect();
+        let (one, other) = (random.below(lines.len()), random.below(lines.len()));
+        if lines.is_empty() {
+            return vec![];
+        }
+        match self {
+            LineDropped => {
+                lines.remove(one);
+            }
+            LineRepeated => lines.insert(one, lines[other].clone()),
+            LinesSwapped => lines.swap(one, other),
+            Shortened => lines.truncate(one),
+            CarriageReturns => lines.iter_mut().for_each(|line| *line = with_return(line)),
+            _ => lines[one] = self.of_line(random, &lines[one]),
+        }
+        lines.concat()
+    }
+
+    /// A line with this change; its line feed stays, if it has one.
+    fn of_line(self, random: &mut Random, line: &[u8]) -> Vec<u8> {
+        let without = line.strip_suffix(b"\n").unwrap_or(line);
+        let mut changed = match self {
+            CarriageReturn => return with_return(line),
+            LineDamaged => damaged_line(random, without),
+            FieldChanged => changed_line(random, without),
+            _ => without.to_vec(),
+        };
+        let fill = FREQUENT[random.below(10)];
+        match self {
+            LineOf64Bytes => changed.resize(64, fill),
+            LineOf65Bytes => changed.resize(65, fill),
+            LineFeedDoubled => changed.push(b'\n'),
+            _ => {}
+        }
+        changed.extend(&line[without.len()..]);
+        changed
+    }
+}
+
+/// Another byte, often one of those that stand in texts.
+fn other_byte(random: &mut Random, byte: u8) -> u8 {
+    let other = match random.one_in(2) {
+        true => FREQUENT[random.below(FREQUENT.len())],
+        false => random.number() as u8,
+    };
+    if other == byte {
+        byte ^ 1
+    } else {
+        other
+    }
+}
+
+/// Leaves out a line feed that does not end the text, if there is one.
+fn drop_line_feed(random: &mut Random, text: &mut Vec<u8>) {
+    let inner = 0..text.len().saturating_sub(1);
+    let line_feeds: Vec<usize> = inner.filter(|&position| text[position] == b'\n').collect();
+    if let Some(&position) = random.pick(&line_feeds) {
+        text.remove(position);
+    }
+}
+
+/// The line with a carriage return before its line feed, or at its end where it has none.
+fn with_return(line: &[u8]) -> Vec<u8> {
+    match line.strip_suffix(b"\n") {
+        Some(without) => [without, b"\r\n"].concat(),
+        None => [line, b"\r"].concat(),
+    }
+}
+
+/// A text with one change, and often without its last byte.
+pub fn damaged_text(random: &mut Random, text: &[u8]) -> Vec<u8> {
+    // Changed fields are refused for the most different reasons.
+    let damage = match random.one_in(2) {
+        true => FieldChanged,
+        false => Damage::ALL[random.below(Damage::ALL.len())],
+    };
+    let mut damaged = damage.of_text(random, text);
+    if random.one_in(4) {
+        damaged.pop();
+    }
+    damaged
+}

@@ -1,0 +1,140 @@
+//! The programs to try of document 01, each with its whole output worked out from the rules.
+
+use crate::generate::text_of_lines;
+
+/// A program to try, with what the document says of it.
+pub struct Try {
+    /// The program in the document's words.
+    pub about: &'static str,
+    /// The program, its last line ended by a line feed.
+    pub text: Vec<u8>,
+    /// What `place` prints.
+    pub prints: Vec<u8>,
+    /// What the C entry returns for a buffer that is long enough.
+    pub returns: u32,
+}
+
+impl Try {
+    /// A program that has this report; lines are separated by white space in both.
+    fn accepted(about: &'static str, lines: &str, report: &str) -> Try {
+        let prints = text_of_lines(report);
+        let returns = 100_000 + prints.len() as u32;
+        Try { about, text: text_of_lines(lines), prints, returns }
+    }
+
+    /// A program that is refused: `place` prints this line, and the C entry returns this number.
+    fn refused(about: &'static str, lines: &str, prints: &str, returns: u32) -> Try {
+        Try { about, text: text_of_lines(lines), prints: text_of_lines(prints), returns }
+    }
+
+    /// The report that the C entry writes, if the program is accepted.
+    pub fn report(&self) -> Option<&[u8]> {
+        (self.returns > 100_000).then_some(&self.prints)
+    }
+}
+
+/// All programs to try.
+pub fn all() -> Vec<Try> {
+    let mut all = starred();
+    all.extend(others());
+    all
+}
+
+/// Program A and the starred ones, in the document's order.
+fn starred() -> Vec<Try> {
+    vec![
+        Try::accepted(
+            "A",
+            "T,0,ANY P,0,g0,0 E,0,VAR,0 E,1,VAR,0 E,2,OP,ADD,0,1 E,3,LAM,0,2",
+            "OK,1,4 G,0,AH P,0,AH,INT E,0,AH,INT E,1,AH,INT E,2,AH,INT E,3,PLAIN,ARROW",
+        ),
+        Try::accepted(
+            "x + x, the sum times x",
+            "T,0,ANY P,0,g0,0
+             E,0,VAR,0 E,1,VAR,0 E,2,OP,ADD,0,1 E,3,VAR,0 E,4,OP,MUL,2,3 E,5,LAM,0,4",
+            "OK,1,6 G,0,FHE P,0,FHE,INT
+             E,0,FHE,INT E,1,FHE,INT E,2,FHE,INT E,3,FHE,INT E,4,FHE,INT E,5,PLAIN,ARROW",
+        ),
+        Try::accepted(
+            "x = x",
+            "T,0,ANY P,0,g0,0 E,0,VAR,0 E,1,VAR,0 E,2,OP,EQ,0,1 E,3,LAM,0,2",
+            "OK,1,4 G,0,DET P,0,DET,INT E,0,DET,INT E,1,DET,INT E,2,PLAIN,INT E,3,PLAIN,ARROW",
+        ),
+        Try::accepted(
+            "x < x",
+            "T,0,ANY P,0,g0,0 E,0,VAR,0 E,1,VAR,0 E,2,OP,LT,0,1 E,3,LAM,0,2",
+            "OK,1,4 G,0,OP P,0,OP,INT E,0,OP,INT E,1,OP,INT E,2,PLAIN,INT E,3,PLAIN,ARROW",
+        ),
+        Try::accepted(
+            "x + NUM",
+            "T,0,ANY P,0,g0,0 E,0,VAR,0 E,1,NUM,7 E,2,OP,ADD,0,1 E,3,LAM,0,2",
+            "OK,1,4 G,0,PLAIN P,0,PLAIN,INT
+             E,0,PLAIN,INT E,1,PLAIN,INT E,2,PLAIN,INT E,3,PLAIN,ARROW",
+        ),
+        Try::accepted(
+            "body x",
+            "T,0,ANY P,0,g0,0 E,0,VAR,0 E,1,LAM,0,0",
+            "OK,1,2 G,0,RAND P,0,RAND,ANY E,0,RAND,ANY E,1,PLAIN,ARROW",
+        ),
+        Try::refused(
+            "x declared RAND, x + x",
+            "T,0,ANY P,0,RAND,0 E,0,VAR,0 E,1,VAR,0 E,2,OP,ADD,0,1 E,3,LAM,0,2",
+            "NO,23,2",
+            23_002,
+        ),
+        Try::refused(
+            "x AH, y MH, x + y",
+            "T,0,ANY T,1,ANY P,0,AH,0 P,1,MH,1
+             E,0,VAR,0 E,1,VAR,1 E,2,OP,ADD,0,1 E,3,LAM,1,2 E,4,LAM,0,3",
+            "NO,22,2",
+            22_002,
+        ),
+        Try::refused(
+            "x applied to x",
+            "T,0,ANY P,0,g0,0 E,0,VAR,0 E,1,VAR,0 E,2,APP,0,1 E,3,LAM,0,2",
+            "NO,21,2",
+            21_002,
+        ),
+        Try::refused(
+            "NUM applied to NUM",
+            "T,0,ANY P,0,g0,0 E,0,NUM,1 E,1,NUM,2 E,2,APP,0,1 E,3,LAM,0,2",
+            "NO,21,2",
+            21_002,
+        ),
+        Try::refused(
+            "NUM applied to NUM without parameters",
+            "E,0,NUM,1 E,1,NUM,2 E,2,APP,0,1",
+            "NO,21,2",
+            21_002,
+        ),
+        Try::accepted(
+            "(x < y) + (x < y)",
+            "T,0,ANY T,1,ANY P,0,g0,0 P,1,g1,1
+             E,0,VAR,0 E,1,VAR,1 E,2,OP,LT,0,1 E,3,VAR,0 E,4,VAR,1 E,5,OP,LT,3,4
+             E,6,OP,ADD,2,5 E,7,LAM,1,6 E,8,LAM,0,7",
+            "OK,2,9 G,0,OP G,1,OP P,0,OP,INT P,1,OP,INT
+             E,0,OP,INT E,1,OP,INT E,2,PLAIN,INT E,3,OP,INT E,4,OP,INT E,5,PLAIN,INT
+             E,6,PLAIN,INT E,7,PLAIN,ARROW E,8,PLAIN,ARROW",
+        ),
+        Try::accepted(
+            "x applied to NUM",
+            "T,0,ANY P,0,g0,0 E,0,VAR,0 E,1,NUM,3 E,2,APP,0,1 E,3,LAM,0,2",
+            "OK,1,4 G,0,RAND P,0,RAND,ARROW E,0,RAND,ARROW E,1,PLAIN,INT E,2,RAND,ANY
+             E,3,PLAIN,ARROW",
+        ),
+    ]
+}
+
+/// The programs without a star.
+fn others() -> Vec<Try> {
+    let numbers = |rows| (0..rows).map(|row| format!("E,{row},NUM,1 ")).collect::<String>();
+    vec![
+        Try::refused("empty table", "", "NO,10,0", 10_000),
+        Try::refused("row 256 on 256 rows", &numbers(257), "X,3,257", 3_257),
+        // All rows are added; the program is not closed, as no row is a child.
+        Try::refused("row 255", &numbers(256), "NO,10,0", 10_000),
+        Try::accepted("NUM 4294967295", "E,0,NUM,4294967295", "OK,0,1 E,0,PLAIN,INT"),
+        Try::refused("NUM 4294967296", "E,0,NUM,4294967296", "X,1,1", 1_001),
+        Try::refused("APP of row 0 to row 0", "E,0,NUM,1 E,1,APP,0,0", "X,7,2", 7_002),
+    ]
+}
