@@ -1,0 +1,96 @@
+/* Reads a table from a file and prints its report, or says in words why it is refused and what to do. */
+#include "placement.h"
+
+#include <stdint.h>
+#include <stdio.h>
+
+enum status { ACCEPTED = 0, REFUSED = 1, NOT_RUN = 2 };
+
+/* What a refusal means and what to do about it. */
+static const char *words(unsigned number) {
+    switch (number) {
+    case PLACEMENT_NO_FORM:
+        return "the line is longer than 64 bytes or has none of the forms. Write it as docs/NUMBERS.md lists the forms.";
+    case PLACEMENT_NOT_NEXT:
+        return "the line's own number is not the next in its list. Number T, P and E lines from 0, each without a gap.";
+    case PLACEMENT_LIST_FULL:
+        return "the list is full. Keep to 64 types, 64 parameters and 256 term rows, or split the job.";
+    case PLACEMENT_NO_TYPE_ROW:
+        return "the line names a type row that is not declared yet. Declare it by a T line above this one.";
+    case PLACEMENT_NO_PARAMETER:
+        return "the line names a parameter that is not declared yet. Declare it by a P line above this one.";
+    case PLACEMENT_CHILD_NOT_BELOW:
+        return "the row names a child that is not below its own number. Put the child's line first.";
+    case PLACEMENT_CHILD_USED:
+        return "a child has a parent already, or is named twice. Give each use a row of its own.";
+    case PLACEMENT_PARAMETER_BOUND:
+        return "another LAM binds this parameter already. Declare a second parameter for the second LAM.";
+    case PLACEMENT_NOT_CLOSED:
+        return "the rows are not one closed program. Use each row but the last, bind each parameter, and use it only under its LAM.";
+    case PLACEMENT_SHORT_BUFFER:
+        return "the report buffer is too short. Lend at least 6,280 bytes.";
+    case PLACEMENT_NO_SHAPES:
+        return "numbers and functions are mixed up here, or a type would contain itself. Apply functions only, and calculate with numbers only.";
+    case PLACEMENT_NO_QUALIFIERS:
+        return "two different schemes would have to be one here. Declare the inputs that meet with one scheme, or with a variable.";
+    case PLACEMENT_NO_BOUNDS:
+        return "a declared scheme does not support an operation on it. Declare a scheme that supports it, or a variable.";
+    default:
+        return "this program does not know the number. See docs/NUMBERS.md.";
+    }
+}
+
+/* Explains a refusal on standard error. */
+static void explain(uint32_t result) {
+    unsigned number = placement_number(result);
+
+    fprintf(stderr, "refused with %u", number);
+    if (placement_names_line(number)) {
+        fprintf(stderr, " at line %u", placement_place(result));
+    } else if (placement_names_row(number)) {
+        fprintf(stderr, " at row E,%u", placement_place(result));
+    }
+    fprintf(stderr, ": %s\n", words(number));
+}
+
+/* Reads as much of a file as can matter; where it cannot be read, says why and returns 0. */
+static int read_text(const char *path, uint8_t text[PLACEMENT_TEXT_LENGTH], size_t *length) {
+    FILE *file = fopen(path, "rb");
+
+    if (file == NULL) {
+        perror(path);
+        return 0;
+    }
+    *length = fread(text, 1, PLACEMENT_TEXT_LENGTH, file);
+    int good = !ferror(file);
+    if (!good) {
+        perror(path);
+    }
+    fclose(file);
+    return good;
+}
+
+int main(int count, char **arguments) {
+    static uint8_t text[PLACEMENT_TEXT_LENGTH];
+    static uint8_t report[PLACEMENT_REPORT_LENGTH];
+    size_t text_length = 0;
+
+    if (count != 2) {
+        fprintf(stderr, "usage: example TABLE\n");
+        return NOT_RUN;
+    }
+    if (!read_text(arguments[1], text, &text_length)) {
+        return NOT_RUN;
+    }
+    uint32_t result = placement_report(text, text_length, report, sizeof report);
+    if (!placement_accepted(result)) {
+        explain(result);
+        return REFUSED;
+    }
+    size_t length = placement_length(result);
+    if (fwrite(report, 1, length, stdout) != length || fflush(stdout) != 0) {
+        perror("standard output");
+        return NOT_RUN;
+    }
+    return ACCEPTED;
+}

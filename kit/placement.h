@@ -1,0 +1,104 @@
+/*
+ * placement, for a key loader in C or C++: a whole table in, its report or a refusal out.
+ *
+ * Link with libplacement.a, which `rt staticlib placement` writes to target/staticlib. The archive is for x86-64 Linux and needs nothing
+ * else but memcpy and memset of the C library. docs/NUMBERS.md has an example and a fix for every refusal.
+ */
+#ifndef PLACEMENT_H
+#define PLACEMENT_H
+
+#include <stddef.h>
+#include <stdint.h>
+
+#ifdef __cplusplus
+extern "C" {
+#endif
+
+/* A report buffer has at least this many bytes, and no report is longer. */
+#define PLACEMENT_REPORT_LENGTH 6280
+
+/* What stands in a text after this many bytes changes nothing: by then a line has been refused, or the text has ended. */
+#define PLACEMENT_TEXT_LENGTH 25025
+
+/*
+ * Stack to have free for a call, in bytes. Measured: 38,000 for ordinary tables, 53,000 for the deepest types found. Nothing proves a bound;
+ * kit/test measures it anew and holds it to this number.
+ */
+#define PLACEMENT_STACK_LENGTH 131072
+
+/* A result from here on is this number plus the report's length. Below it, a result is 1,000 times a refusal's number plus its line or row. */
+#define PLACEMENT_ACCEPTED 100000u
+
+/* The refusals' numbers. 9 and 12 belong to calls that this entry does not make. */
+enum placement_refusal {
+    /* With the line's number, counted from 1. */
+    PLACEMENT_NO_FORM = 1,           /* longer than 64 bytes, or none of the forms */
+    PLACEMENT_NOT_NEXT = 2,          /* own number is not the next in its list */
+    PLACEMENT_LIST_FULL = 3,         /* 64 types, 64 parameters or 256 term rows stand already */
+    PLACEMENT_NO_TYPE_ROW = 4,       /* type row not declared before this line */
+    PLACEMENT_NO_PARAMETER = 5,      /* parameter not declared before this line */
+    PLACEMENT_CHILD_NOT_BELOW = 6,   /* child not below own number */
+    PLACEMENT_CHILD_USED = 7,        /* child already used, or one row named as both children */
+    PLACEMENT_PARAMETER_BOUND = 8,   /* LAM of a parameter already bound */
+    /* With 0. */
+    PLACEMENT_NOT_CLOSED = 10,       /* the rows are not one closed program */
+    PLACEMENT_SHORT_BUFFER = 11,     /* report buffer shorter than PLACEMENT_REPORT_LENGTH */
+    /* With the term row's number, counted from 0: the least one that leaves no typing. */
+    PLACEMENT_NO_SHAPES = 21,        /* no typing, even when qualifiers are ignored */
+    PLACEMENT_NO_QUALIFIERS = 22,    /* no typing, even when "at or below" is dropped */
+    PLACEMENT_NO_BOUNDS = 23         /* no typing */
+};
+
+/*
+ * Reads the lines of a table and writes its report.
+ *
+ * Accepted: returns PLACEMENT_ACCEPTED plus the report's length. The report stands at the front of the buffer, without a 0 at its end; the
+ * bytes beyond it are as they were. Refused: returns the number and the place as above, and the whole buffer is as it was. A short buffer
+ * is refused before the text is looked at.
+ *
+ * text: any bytes, of any length. They are read and never changed.
+ * report: the caller's buffer. Nothing of it, or of the text, is kept after the call.
+ *
+ * The caller owes: pointers that are not null, also for length 0; lengths that are true; a text and a buffer that do not overlap; nobody
+ * else who writes to either during the call; and PLACEMENT_STACK_LENGTH bytes of free stack.
+ *
+ * The call takes no memory but its stack and holds no state, so threads may call it at once, each with a buffer of its own. It ends for
+ * every text.
+ */
+uint32_t placement_report(const uint8_t *text, size_t text_length, uint8_t *report, size_t report_length);
+
+/* Whether a result stands for a report. */
+static inline int placement_accepted(uint32_t result) {
+    return result >= PLACEMENT_ACCEPTED;
+}
+
+/* The report's length; 0 for a refusal. */
+static inline size_t placement_length(uint32_t result) {
+    return placement_accepted(result) ? (size_t)(result - PLACEMENT_ACCEPTED) : 0;
+}
+
+/* The refusal's number, one of enum placement_refusal; 0 for a report. */
+static inline unsigned placement_number(uint32_t result) {
+    return placement_accepted(result) ? 0 : (unsigned)(result / 1000);
+}
+
+/* The refusal's line or row; 0 for a report. */
+static inline unsigned placement_place(uint32_t result) {
+    return placement_accepted(result) ? 0 : (unsigned)(result % 1000);
+}
+
+/* Whether the place of a refusal with this number is a line. */
+static inline int placement_names_line(unsigned number) {
+    return number >= PLACEMENT_NO_FORM && number <= PLACEMENT_PARAMETER_BOUND;
+}
+
+/* Whether the place of a refusal with this number is a term row. */
+static inline int placement_names_row(unsigned number) {
+    return number >= PLACEMENT_NO_SHAPES && number <= PLACEMENT_NO_BOUNDS;
+}
+
+#ifdef __cplusplus
+}
+#endif
+
+#endif

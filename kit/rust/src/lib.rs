@@ -1,0 +1,66 @@
+//! Under which encryption scheme each input of a job leaves its owner's house: a table in, a report or a refusal out.
+//!
+//! The work is done by a proved library, which is linked as an archive. This crate only lends it a buffer and takes its answer apart.
+//!
+//! ```
+//! let report = placement::report(b"E,0,ENC,AH,5\n").unwrap();
+//! assert_eq!(report.as_bytes(), b"OK,0,1\nE,0,AH,INT\n");
+//!
+//! let refusal = placement::report(b"E,0,NUM,1\nE,1,APP,0,0\n").unwrap_err();
+//! assert_eq!(refusal.number, 7);
+//! assert_eq!(refusal.place, placement::Place::Line(2));
+//! ```
+
+#![warn(missing_docs)]
+#![deny(unsafe_op_in_unsafe_fn)]
+
+mod entry;
+mod refusal;
+
+pub use refusal::{Place, Refusal};
+
+use std::fmt;
+
+/// What stands in a text after this many bytes changes nothing: by then a line has been refused, or the text has ended.
+pub const TEXT_LENGTH: u64 = 25025;
+
+/// The report of an accepted table.
+#[derive(Clone, Debug, PartialEq, Eq)]
+pub struct Report {
+    bytes: Vec<u8>,
+}
+
+impl Report {
+    /// The report's bytes: lines that end in a line feed.
+    pub fn as_bytes(&self) -> &[u8] {
+        &self.bytes
+    }
+
+    /// The report's lines without their line feeds, each as its fields, such as `P`, `0`, `AH`, `INT`.
+    pub fn lines(&self) -> impl Iterator<Item = Vec<&[u8]>> {
+        let lines = self.bytes.split_inclusive(|&byte| byte == b'\n');
+        lines.map(|line| {
+            let line = line.strip_suffix(b"\n").unwrap_or(line);
+            line.split(|&byte| byte == b',').collect()
+        })
+    }
+}
+
+impl fmt::Display for Report {
+    fn fmt(&self, f: &mut fmt::Formatter<'_>) -> fmt::Result {
+        f.write_str(&String::from_utf8_lossy(&self.bytes))
+    }
+}
+
+/// Finds the report of a table, whose lines are the text's, or why there is none.
+///
+/// Threads may call it at once. A call takes up to 128 KiB of stack, far less than a thread has by default.
+pub fn report(text: &[u8]) -> Result<Report, Refusal> {
+    let mut bytes = vec![0; entry::REPORT_LENGTH];
+    let length = refusal::taken_apart(entry::placement_report(text, &mut bytes))?;
+    bytes.truncate(length);
+    Ok(Report { bytes })
+}
+
+#[cfg(test)]
+mod tests;

@@ -1,0 +1,77 @@
+//! Refusals, and how the entry packs them into one number.
+
+use std::error::Error;
+use std::fmt;
+
+/// What the entry adds to a report's length.
+const ACCEPTED: u32 = 100_000;
+
+/// Why a table has no report; docs/NUMBERS.md has an example and a fix for each number.
+#[derive(Clone, Copy, Debug, PartialEq, Eq)]
+pub struct Refusal {
+    /// 1 to 8 for a line, 10 or 11 for the whole, 21 to 23 for a row.
+    pub number: u32,
+    /// Where the refusal stands.
+    pub place: Place,
+}
+
+/// Where a refusal stands.
+#[derive(Clone, Copy, Debug, PartialEq, Eq)]
+pub enum Place {
+    /// A line of the text, counted from 1.
+    Line(u32),
+    /// A term row, counted from 0: the least one that leaves no typing.
+    Row(u32),
+    /// The table as a whole, or the buffer.
+    Whole,
+}
+
+/// The report's length, or the refusal, that the entry's answer stands for.
+pub fn taken_apart(answer: u32) -> Result<usize, Refusal> {
+    if answer >= ACCEPTED {
+        return Ok((answer - ACCEPTED) as usize);
+    }
+    let (number, place) = (answer / 1_000, answer % 1_000);
+    let place = match number {
+        1..=8 => Place::Line(place),
+        21..=23 => Place::Row(place),
+        _ => Place::Whole,
+    };
+    Err(Refusal { number, place })
+}
+
+impl Refusal {
+    /// What the refusal's number means.
+    pub fn meaning(&self) -> &'static str {
+        match self.number {
+            1 => "longer than 64 bytes, or none of the forms",
+            2 => "own number is not the next in its list",
+            3 => "list full: 64 types, 64 parameters, 256 term rows",
+            4 => "type row not declared before this line",
+            5 => "parameter not declared before this line",
+            6 => "child not below own number",
+            7 => "child already used, or one row named as both children",
+            8 => "LAM of a parameter already bound",
+            10 => "the rows are not one closed program",
+            11 => "report buffer too short",
+            21 => "numbers and functions are mixed up, or a type would contain itself",
+            22 => "two different schemes would have to be one",
+            23 => "a declared scheme does not support an operation on it",
+            _ => "unknown number",
+        }
+    }
+}
+
+impl fmt::Display for Refusal {
+    fn fmt(&self, f: &mut fmt::Formatter<'_>) -> fmt::Result {
+        write!(f, "refused with {}", self.number)?;
+        match self.place {
+            Place::Line(line) => write!(f, " at line {line}")?,
+            Place::Row(row) => write!(f, " at row E,{row}")?,
+            Place::Whole => {}
+        }
+        write!(f, ": {}", self.meaning())
+    }
+}
+
+impl Error for Refusal {}
