@@ -9,15 +9,16 @@ use Rattle.model.specs.Typing.{Typable}
 use Rattle.model.specs.Strength.{whole, six}
 use Rattle.model.specs.Inference.{Slot, Shape, Refusal, Accepted}
 use Rattle.model.specs.Report.{report}
-use Rattle.model.specs.Session.{Call, Outcome, Infers, Session}
+use Rattle.model.specs.Session.{Call, Outcome, returning, Infers, Session}
 use Rattle.model.specs.Text.{Prints, Returns}
 use Rattle.model.proofs.Answers.{session-same}
 use Rattle.table.specs.Lists.{lists}
+use Rattle.table.specs.Called.{Called}
 use Rattle.table.specs.declared.Table.{Table}
-use Rattle.inference.specs.Ran.{Ran}
+use Rattle.inference.specs.Ran.{Step, changes, Ran}
 use Rattle.inference.proofs.Follows.{session-follows}
 use Rattle.inference.proofs.Corollaries.{open-exactly, refused-untypable, untypable-refused, reported-greatest}
-use Rattle.text.proofs.Front.{prints-front}
+use Rattle.text.proofs.Front.{prints-front, returns-front}
 use Rattle.text.proofs.Same.{prints-same, returns-same}
 
 -- Demand 3. Every list of add, redeclare, take-back and infer calls from a fresh table, with any bytes, numbers and buffers, accepted or
@@ -25,6 +26,11 @@ use Rattle.text.proofs.Same.{prints-same, returns-same}
 -- `Ran` holds of a list exactly what the contracts of the four functions say of its calls; `Table::fresh` ensures the premise.
 pub demand-3 : {t : Table} {trace : List (Call × Outcome)} → lists t ≡ freshMachine → Ran t trace → Session freshMachine trace
 demand-3 = session-follows
+
+-- A call through the layer that lends the table is a step of such a list: lent/proofs/Covered.antt has the premise from each function's contract.
+pub lent-covered : {before after : Table} {call : Call} {number : ℕ} → Called before call (record { table = after; number = number }) →
+    Step before call (returning number) after
+lent-covered called = changes called
 
 -- These answers are determined: the same calls have the same numbers, rows, lengths and bytes.
 pub answers-determined : {m : Machine} {trace trace′ : List (Call × Outcome)} →
@@ -60,6 +66,9 @@ printed-determined = prints-same
 
 pub printed-front : {text out : List ℕ} → Prints (take 25025 text) out → Prints text out
 printed-front = prints-front
+
+pub returned-front : {text buffer b : List ℕ} {n : ℕ} → Returns (take 25025 text) buffer n b → Returns text buffer n b
+returned-front = returns-front
 
 pub returned-determined : {text buffer b b′ : List ℕ} {n n′ : ℕ} → Returns text buffer n b → Returns text buffer n′ b′ → (n ≡ n′) × (b ≡ b′)
 returned-determined = returns-same

@@ -11,7 +11,7 @@ use lib.Seq.{take-nil, take-take}
 use borrow.Author.Tests.{eqb-true}
 use Rattle.model.specs.Machine.{Machine, freshMachine, added}
 use Rattle.model.specs.Session.{adds}
-use Rattle.model.specs.Text.{linesOf, stopped, loadFrom, load, Prints, refused-add, refused-inference, reported}
+use Rattle.model.specs.Text.{linesOf, stopped, loadFrom, load, Prints, Returns}
 use Rattle.model.proofs.Limits.{Within, fresh-within, answers-within}
 use Rattle.text.specs.Lines.{lineLength}
 use Rattle.text.proofs.Lines.{line-length-most, line-length-front, lines-first}
@@ -80,6 +80,12 @@ pub load-front : (text : List ℕ) → load (take 25025 text) ≡ load text
 load-front text = decided 384 freshMachine 1 fresh-within (omega (arith, fresh-entries)) 25025 text (omega arith)
 
 pub prints-front : {text out : List ℕ} → Prints (take 25025 text) out → Prints text out
-prints-front {text} (refused-add e) = refused-add (sym (load-front text) ∙ e)
-prints-front {text} (refused-inference e j n) = refused-inference (sym (load-front text) ∙ e) j n
-prints-front {text} (reported e j) = reported (sym (load-front text) ∙ e) j
+prints-front {text} (Prints.refused-add e) = Prints.refused-add (sym (load-front text) ∙ e)
+prints-front {text} (Prints.refused-inference e j n) = Prints.refused-inference (sym (load-front text) ∙ e) j n
+prints-front {text} (Prints.reported e j) = Prints.reported (sym (load-front text) ∙ e) j
+
+pub returns-front : {text buffer b : List ℕ} {n : ℕ} → Returns (take 25025 text) buffer n b → Returns text buffer n b
+returns-front (Returns.short h) = Returns.short h
+returns-front {text} (Returns.refused-add h e) = Returns.refused-add h (sym (load-front text) ∙ e)
+returns-front {text} (Returns.refused-inference h e i n) = Returns.refused-inference h (sym (load-front text) ∙ e) i n
+returns-front {text} (Returns.reported h e i z) = Returns.reported h (sym (load-front text) ∙ e) i z
