@@ -1,3 +1,4 @@
 pub mod Judging
 pub mod Follows
 pub mod Corollaries
+pub mod Contracts
