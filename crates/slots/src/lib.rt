@@ -2,6 +2,7 @@
 use model::Param;
 use model::TypeForm;
 use model::TypeRow;
+use scheme::Standing;
 ghost use mathlib.Core.Path.{_≡_};
 ghost use Prim.Native.Nat.{ℕ, _+_, _<_, _≤_};
 ghost use lib.Dec.{eqb};
@@ -46,14 +47,11 @@ fn put(list: &mut [u8], at: usize, code: u8)
 fn fill_variable(code: u8, words: &[u8; 327], variables: &mut [u8; 64])
     ensures { λ _. ⌜ VariablesFilled (λ c. eqb c code) (now (words .entry)) (now (variables .entry)) (now (variables .exit)) ⌝ }
 {
-    let node = code as usize;
-    if node < 7 {
-        return;
+    match scheme::stands_for(code as u64) {
+        Standing::Word(_) => {}
+        Standing::Variable(k) => put(variables, k as usize, words[k as usize + 7]),
+        Standing::Nothing => {}
     }
-    if 71 <= node {
-        return;
-    }
-    put(variables, node - 7, words[node]);
 }
 
 // Fills the variables of a type row's form.
