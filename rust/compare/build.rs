@@ -10,7 +10,6 @@ use std::path::{Path, PathBuf};
 fn main() {
     let package = variable("CARGO_MANIFEST_DIR").expect("cargo names the package's folder");
     let folder = variable("PLACEMENT_STATICLIB").unwrap_or(package.join("../../target/staticlib"));
-    println!("cargo:rerun-if-changed=build.rs");
     println!("cargo:rerun-if-env-changed=PLACEMENT_STATICLIB");
     println!("cargo:rustc-link-search=native={}", folder.display());
     for name in names(&package).lines() {

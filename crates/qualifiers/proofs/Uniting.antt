@@ -2,11 +2,15 @@
 use Prim.Native.Nat.{ℕ, _<_, _≤_, _+_}
 use native.Mathlib.Omega.{arith}
 use borrow.Author.Count.{below-none, below-more}
+use borrow.Author.Tests.{eqb-true}
 use mathlib.Core.Bool.{Bool, true, false, true≢false, false≢true}
 use mathlib.Core.List.{List}
-use mathlib.Core.Path.{_≡_, refl, sym, ap, _∙_}
+use mathlib.Core.Path.{_≡_, refl, sym, ap, subst, _∙_}
 use lib.ListN.{getD, set}
+use lib.Seq.{set-getD}
 use Rattle.scheme.specs.Meet.{meetOf}
+use Rattle.scheme.proofs.Order.{rand-greatest}
+use Rattle.scheme.proofs.Meets.{meet-is-left}
 use Rattle.forest.specs.Forest.{up, Forest, Linked, Reach, here, further, Found}
 use Rattle.forest.proofs.Links.{by-eq, up-same, up-other, linked-into, linked-outof, linked-joins, shorter-into, shorter-outof}
 use Rattle.qualifiers.specs.Classes.{boundAt, Classes, Rooted, Roots, United, UnitedAll}
@@ -60,6 +64,14 @@ module _ {p b : List ℕ} (k : Classes p b) (low high : ℕ) (roots : Roots p lo
         bounds-outof = λ _ v linked bounded. l .outof v bounded .0;
         clash = λ e. absurd (true≢false e);
       }
+
+  -- RAND bounds nothing, so the smaller root keeps its bound.
+  pub joined-rand : 7 ≤ high → boundAt b high ≡ 6 → United p b (set p high low) b low high true
+  joined-rand free rand =
+      let code = k .codes low (omega (arith, roots .less, roots .node)) in
+      let same : meetOf (boundAt b low) (boundAt b high) ≡ boundAt b low =
+      ap (meetOf (boundAt b low)) rand ∙ eqb-true _ _ (meet-is-left (boundAt b low) 6 code (omega arith) ∙ rand-greatest (boundAt b low) code) in
+      subst (λ (b′ : List ℕ). United p b (set p high low) b′ low high true) (ap (set b low) same ∙ set-getD b low 0) (joined free)
 
 pub united-turned : {p b p′ b′ : List ℕ} {x y : ℕ} {r : Bool} → United p b p′ b′ y x r → United p b p′ b′ x y r
 united-turned u =

@@ -18,13 +18,17 @@ fn root(parent: &mut [u16; 327], x: usize) -> usize
     r
 }
 
-// Puts a root under a smaller one, which takes the meet of the two bounds. False: both are constants.
+// Puts a root under a smaller one, which takes the meet of the two bounds; RAND leaves the other as it is. False: both are constants.
 fn join(parent: &mut [u16; 327], bound: &mut [u8; 327], low: usize, high: usize) -> bool
     requires { ⌜ Classes (now parent) (now bound) ⌝ ∗ ⌜ Roots (now parent) low high ⌝ }
     ensures { λ r. ⌜ United (now (parent .entry)) (now (bound .entry)) (now (parent .exit)) (now (bound .exit)) low high r ⌝ }
 {
     if high < 7 {
         return false;
+    }
+    if bound[high] == 6 {
+        forest::put_under(parent, high, low);
+        return true;
     }
     bound[low] = scheme::meet(bound[low], bound[high]);
     forest::put_under(parent, high, low);
@@ -78,17 +82,21 @@ pub fn restrict(parent: &[u16; 327], bound: &mut [u8; 327], x: usize, most: u8)
     bound[r] = scheme::meet(bound[r], most);
 }
 
-// Whether every constant is at or below its bound.
+// Whether every constant is at or below its bound. RAND bounds nothing, and most bounds are RAND.
 pub fn within_bounds(bound: &[u8; 327]) -> bool
     requires { ⌜ (length (now bound) ≡ 327) × ((x : ℕ) → x < 327 → boundAt (now bound) x < 7) ⌝ }
     ensures { λ r. ⌜ Tested (now (bound .entry)) r ⌝ }
 {
     let mut c: u8 = 0;
     while c < 7 {
-        if !scheme::at_or_below(c, bound[c as usize]) {
-            return false;
+        if bound[c as usize] == 6 {
+            c += 1;
+        } else {
+            if !scheme::at_or_below(c, bound[c as usize]) {
+                return false;
+            }
+            c += 1;
         }
-        c += 1;
     }
     true
 }

@@ -16,6 +16,7 @@ use Rattle.model.specs.declared.TermRow.{TermRow}
 use Rattle.model.specs.declared.Term.{Term}
 use Rattle.model.specs.declared.Term.the-variants.{Lam, App, Op, Var, Num, Enc}
 use Rattle.graph.specs.Types.{partAt, Parts}
+use Rattle.readings.specs.Nodes.{parameterOf}
 use Rattle.setup.specs.Descriptors.{HasParts, Describes, machineOf, Described}
 use Rattle.setup.specs.Passes.{DescribesForm, DescribesTerm, HasNodes, FormsStand, TermsHaveNodes, Only, FormsDescribed, TermsDescribed, FormsKept}
 
@@ -62,6 +63,15 @@ forms-kept-none kids x j below h = refl
 pub forms-kept-more : (kids kids′ kids″ : List ℕ) (i : ℕ) → FormsKept kids kids′ → Only (i + 64) kids′ kids″ → FormsKept kids kids″
 forms-kept-more kids kids′ kids″ i kept only x j below h = only .others x j (λ e. omega arith) h ∙ kept x j below h
 
+-- The parameter that a row names has a place, and so has 0, where it names none.
+pub names-place : (count i : ℕ) (term : Term) → count ≤ 64 → TermStands count i term → parameterOf term < 64
+names-place count i (Lam p b) few stands = omega (arith, stands .0)
+names-place count i (App f a) few stands = omega arith
+names-place count i (Op o l r) few stands = omega arith
+names-place count i (Var p) few stands = omega arith
+names-place count i (Num n) few stands = omega arith
+names-place count i (Enc s n) few stands = omega arith
+
 module _ (types : List TypeRow) (typecount : ℕ) (params : List Param) (paramcount : ℕ) (terms : List TermRow) (termcount : ℕ)
     (wf : WellFormed (machineOf types typecount params paramcount terms termcount))
     (whole : (length types ≡ 64) × (length params ≡ 64) × (length terms ≡ 256))
@@ -94,10 +104,10 @@ module _ (types : List TypeRow) (typecount : ℕ) (params : List Param) (paramco
       subst (λ (row : TermRow). TermStands paramcount i (row .term)) (row-term i h)
       (subst (λ (n : ℕ). TermStands n i (termIn (take termcount terms) i)) param-count (wf .terms-stand i (omega (arith, term-count))))
 
-  nodes-of : (i : ℕ) (term : Term) → TermStands paramcount i term → HasNodes params i term
+  nodes-of : (i : ℕ) (term : Term) → TermStands paramcount i term → HasNodes (paramIn params (parameterOf term)) i term
   nodes-of i (Lam p b) stands =
       let param = rw (row-param p (stands .0)) at (wf .params-stand p (omega (arith, param-count))) in
-      (omega arith, stands .1, (param .0, omega (arith, type-count)))
+      (stands .1, (param .0, omega (arith, type-count)))
   nodes-of i (App f a) stands = stands
   nodes-of i (Op o l r) stands = tt
   nodes-of i (Var p) stands = tt
@@ -105,7 +115,9 @@ module _ (types : List TypeRow) (typecount : ℕ) (params : List Param) (paramco
   nodes-of i (Enc s n) stands = tt
 
   pub terms-have-nodes : TermsHaveNodes params terms termcount
-  terms-have-nodes i h = nodes-of i (termIn terms i) (term-stands i h)
+  terms-have-nodes i h =
+      let stands = term-stands i h in
+      (names-place paramcount i (termIn terms i) (fits .1) stands, nodes-of i (termIn terms i) stands)
 
   -- The machine has the parameter that a row names.
   row-described : (kids : List ℕ) (i : ℕ) (term : Term) → TermStands paramcount i term → DescribesTerm kids params i term →

@@ -31,19 +31,21 @@ DescribesTerm kids params i term =
     Describes kids i term (paramIn params (parameterOf term) .qualifier) (paramIn params (parameterOf term) .typerow)
 
 -- What makes the parts of a term row's descriptor nodes: a LAM and an APP name rows below their own, and a LAM a parameter that stands.
-abbrev pub HasNodes : List Param → ℕ → Term → Type 0
-HasNodes params i (Lam p b) = (p < 64) × (b < i) × ParamStands 64 (paramIn params p)
-HasNodes params i (App f a) = (f < i) × (a < i)
-HasNodes params i (Op o l r) = Unit {0}
-HasNodes params i (Var p) = Unit {0}
-HasNodes params i (Num n) = Unit {0}
-HasNodes params i (Enc s n) = Unit {0}
+abbrev pub HasNodes : Param → ℕ → Term → Type 0
+HasNodes param i (Lam p b) = (b < i) × ParamStands 64 param
+HasNodes param i (App f a) = (f < i) × (a < i)
+HasNodes param i (Op o l r) = Unit {0}
+HasNodes param i (Var p) = Unit {0}
+HasNodes param i (Num n) = Unit {0}
+HasNodes param i (Enc s n) = Unit {0}
 
 abbrev pub FormsStand : List TypeRow → ℕ → Type 0
 FormsStand types count = (x : ℕ) → x < count → TypeStands x (formIn types x)
 
+-- Each of the first rows names a place of the parameters, and has its nodes.
 abbrev pub TermsHaveNodes : List Param → List TermRow → ℕ → Type 0
-TermsHaveNodes params terms count = (i : ℕ) → i < count → HasNodes params i (termIn terms i)
+TermsHaveNodes params terms count =
+    (i : ℕ) → i < count → (parameterOf (termIn terms i) < 64) × HasNodes (paramIn params (parameterOf (termIn terms i))) i (termIn terms i)
 
 -- No descriptor but d has changed.
 pub record Only (d : ℕ) (kids kids′ : List ℕ) : Type 0 where

@@ -10,9 +10,10 @@ ghost use lib.ListN.{take};
 ghost use Rattle.model.specs.Machine.{Machine};
 ghost use Rattle.model.specs.WellFormed.{WellFormed, TypeStands};
 ghost use Rattle.graph.specs.Types.{Parts};
-ghost use Rattle.setup.specs.Descriptors.{HasParts, machineOf, Described};
+ghost use Rattle.readings.specs.Nodes.{parameterOf};
+ghost use Rattle.setup.specs.Descriptors.{HasParts, machineOf, Describes, Described};
 ghost use Rattle.setup.specs.Started.{formKind, Started};
-ghost use Rattle.setup.specs.Passes.{DescribesForm, DescribesTerm, HasNodes, FormsStand, TermsHaveNodes, Only, FormsDescribed, TermsDescribed, FormsKept, SelfRooted, Kinds};
+ghost use Rattle.setup.specs.Passes.{DescribesForm, HasNodes, FormsStand, TermsHaveNodes, Only, FormsDescribed, TermsDescribed, FormsKept, SelfRooted, Kinds};
 
 // Writes descriptor d: the argument's qualifier and type node, then the result's.
 fn write(
@@ -68,14 +69,27 @@ fn describe_forms(types: [TypeRow; 64], count: usize, kids: &mut [u16; 1280])
     }
 }
 
-// Writes the descriptor of a term row, if it is a LAM or an APP.
-fn describe_term(term: Term, i: usize, params: [Param; 64], kids: &mut [u16; 1280])
-    requires { ⌜ Parts (now kids) ⌝ ∗ ⌜ (i < 256) × HasNodes params i term ⌝ }
-    ensures { λ _. ⌜ Only (i + 64) (now (kids .entry)) (now (kids .exit)) × DescribesTerm (now (kids .exit)) params i term ⌝ }
+// The parameter that a row names; 0 where it names none.
+pub fn parameter(term: Term) -> usize
+    ensures { λ r. ⌜ r ≡ parameterOf term ⌝ }
 {
     match term {
-        Term::Lam(p, body) => {
-            let param = params[p as usize];
+        Term::Lam(p, _) => p as usize,
+        Term::App(_, _) => 0,
+        Term::Op(_, _, _) => 0,
+        Term::Var(p) => p as usize,
+        Term::Num(_) => 0,
+        Term::Enc(_, _) => 0,
+    }
+}
+
+// Writes the descriptor of a term row, if it is a LAM, whose parameter is given, or an APP.
+fn describe_term(term: Term, i: usize, param: Param, kids: &mut [u16; 1280])
+    requires { ⌜ Parts (now kids) ⌝ ∗ ⌜ (i < 256) × HasNodes param i term ⌝ }
+    ensures { λ _. ⌜ Only (i + 64) (now (kids .entry)) (now (kids .exit)) × Describes (now (kids .exit)) i term (param .qualifier) (param .typerow) ⌝ }
+{
+    match term {
+        Term::Lam(_, body) => {
             write(
                 kids,
                 i + 64,
@@ -112,7 +126,10 @@ fn describe_terms(params: [Param; 64], terms: [TermRow; 256], count: usize, kids
     while i < count {
         let row = terms[i];
         let term = row.term;
-        describe_term(term, i, params, kids);
+        let p = parameter(term);
+        // read here: to pass the array on would copy it for every row
+        let param = params[p];
+        describe_term(term, i, param, kids);
         i += 1;
     }
 }

@@ -5,9 +5,9 @@ use mathlib.Core.Bool.{true}
 use mathlib.Core.List.{List}
 use mathlib.Core.Logic.{_⊎_, inl, inr}
 use mathlib.Core.Path.{_≡_, refl, sym, ap, subst, subst₂, _∙_}
-use lib.ListN.{length, getD, take}
+use lib.ListN.{length, take}
 use Rattle.scheme.specs.Order.{atOrBelow}
-use Rattle.model.specs.Machine.{Machine, termIn, termAt}
+use Rattle.model.specs.Machine.{Machine, paramIn, termIn, paramAt, termAt}
 use Rattle.model.specs.Typing.{Ty}
 use Rattle.model.specs.Inference.{Cause}
 use Rattle.model.specs.declared.Param.{Param}
@@ -26,31 +26,35 @@ use Rattle.solver.specs.declared.Run.the-variants.{Whole, Stopped}
 use Rattle.solver.proofs.Progress.{Row, Limit, after-more}
 use Rattle.solver.proofs.Stops.{fails-shapes, fails-apart, fails-bounds, cyclic, finite-unordered, broken-whole, finite-whole, clash-row, apart-row, apart-cyclic, apart-finite}
 
--- The rule of row i, from the row's term and the parameters that stand.
-abbrev pub RowOf : ℕ → Term → List Param → (ℕ → Ty ℕ) → (ℕ → ℕ) → Type 0
-RowOf i term params =
-    RowHolds i term (getD params (parameterOf term) (record { qualifier = 0; typerow = 0 }) .qualifier) (getD params (parameterOf term) (record { qualifier = 0; typerow = 0 }) .typerow)
+-- The rule of row i, from the row's term and the parameter that it names.
+abbrev pub RowOf : ℕ → Term → Param → (ℕ → Ty ℕ) → (ℕ → ℕ) → Type 0
+RowOf i term param = RowHolds i term (param .qualifier) (param .typerow)
 
 module _ (params : List Param) (count : ℕ) (terms : List TermRow) (rows : ℕ) (m : Machine) (of : RowsOf m params count terms rows)
-    (kids u k p b : List ℕ) (parts : Parts kids) (i : ℕ) (below : i < rows) (after : After m kids u k p b i) where
+    (kids u k p b : List ℕ) (parts : Parts kids) (i : ℕ) (below : i < rows) (after : After m kids u k p b i)
+    (param : Param) (is : param ≡ paramIn (take count params) (parameterOf (termIn terms i))) where
   in-list : i < length (m .terms)
   in-list = of .same-term i below .0
 
+  -- The parameter is the one that the machine's row names.
+  at-parameter : param ≡ paramAt m (parameterOf (termAt m i))
+  at-parameter = rw (of .same-params, of .same-term i below .1) is
+
   -- The step of the array's row is that of the machine's row.
-  at-machine : (u′ k′ p′ b′ : List ℕ) (r : Verdict) → Stepped kids u k p b u′ k′ p′ b′ (RowOf i (termIn terms i) (take count params)) (RowFits (termIn terms i)) r →
+  at-machine : (u′ k′ p′ b′ : List ℕ) (r : Verdict) → Stepped kids u k p b u′ k′ p′ b′ (RowOf i (termIn terms i) param) (RowFits (termIn terms i)) r →
       Stepped kids u k p b u′ k′ p′ b′ (Row m i) (Limit m i) r
   at-machine u′ k′ p′ b′ r =
-      subst₂ (λ (term : Term) (ps : List Param). Stepped kids u k p b u′ k′ p′ b′ (RowOf i term ps) (RowFits term) r) (sym (of .same-term i below .1)) (sym (of .same-params))
+      subst₂ (λ (term : Term) (named : Param). Stepped kids u k p b u′ k′ p′ b′ (RowOf i term named) (RowFits term) r) (sym (of .same-term i below .1)) at-parameter
 
-  pub went-on : (u′ k′ p′ b′ : List ℕ) → Stepped kids u k p b u′ k′ p′ b′ (RowOf i (termIn terms i) (take count params)) (RowFits (termIn terms i)) Verdict.Fine →
+  pub went-on : (u′ k′ p′ b′ : List ℕ) → Stepped kids u k p b u′ k′ p′ b′ (RowOf i (termIn terms i) param) (RowFits (termIn terms i)) Verdict.Fine →
       After m kids u′ k′ p′ b′ (i + 1)
   went-on u′ k′ p′ b′ step = after-more m kids u k p b u′ k′ p′ b′ i in-list after (at-machine u′ k′ p′ b′ Verdict.Fine step)
 
-  pub stopped-shapes : Stepped kids u k p b u k p b (RowOf i (termIn terms i) (take count params)) (RowFits (termIn terms i)) Verdict.Shapes → (i < rows) × Fails m 21 i
+  pub stopped-shapes : Stepped kids u k p b u k p b (RowOf i (termIn terms i) param) (RowFits (termIn terms i)) Verdict.Shapes → (i < rows) × Fails m 21 i
   stopped-shapes step =
       (below, fails-shapes m (of .well-formed) (i + 1) (clash-row m (of .well-formed) kids u k p b parts i in-list after (at-machine u k p b Verdict.Shapes step)))
 
-  pub stopped-apart : (u′ k′ : List ℕ) (number : ℕ) → Stepped kids u k p b u′ k′ p b (RowOf i (termIn terms i) (take count params)) (RowFits (termIn terms i)) Verdict.Apart →
+  pub stopped-apart : (u′ k′ : List ℕ) (number : ℕ) → Stepped kids u k p b u′ k′ p b (RowOf i (termIn terms i) param) (RowFits (termIn terms i)) Verdict.Apart →
       Judges u′ k′ kids 22 number → (i < rows) × Fails m number i
   stopped-apart u′ k′ number step (inl (e, all)) =
       let apart = at-machine u′ k′ p b Verdict.Apart step in (
@@ -67,7 +71,7 @@ module _ (params : List Param) (count : ℕ) (terms : List TermRow) (rows : ℕ)
             (fails-shapes m (of .well-formed) (i + 1) (apart-cyclic m (of .well-formed) kids u k p b parts i in-list after u′ k′ apart none)),
       )
 
-  pub stopped-broken : (u′ k′ p′ b′ : List ℕ) (number : ℕ) → Stepped kids u k p b u′ k′ p′ b′ (RowOf i (termIn terms i) (take count params)) (RowFits (termIn terms i)) Verdict.Broken →
+  pub stopped-broken : (u′ k′ p′ b′ : List ℕ) (number : ℕ) → Stepped kids u k p b u′ k′ p′ b′ (RowOf i (termIn terms i) param) (RowFits (termIn terms i)) Verdict.Broken →
       Judges u′ k′ kids 23 number → (i < rows) × Fails m number i
   stopped-broken u′ k′ p′ b′ number step (inl (e, all)) =
       let broken = at-machine u′ k′ p′ b′ Verdict.Broken step in

@@ -7,12 +7,12 @@ use rows::Verdict;
 ghost use mathlib.Core.Path.{_≡_};
 ghost use mathlib.Core.List.{List};
 ghost use Prim.Native.Nat.{ℕ, _+_, _<_, _≤_};
-ghost use lib.ListN.{length, take};
+ghost use lib.ListN.{take};
 ghost use Rattle.model.specs.Machine.{paramIn};
 ghost use Rattle.model.specs.WellFormed.{WellFormed};
 ghost use Rattle.graph.specs.Types.{Parts, TypeClasses};
 ghost use Rattle.qualifiers.specs.Classes.{Classes};
-ghost use Rattle.readings.specs.Nodes.{parameterOf, RowHolds, RowFits};
+ghost use Rattle.readings.specs.Nodes.{RowHolds, RowFits};
 ghost use Rattle.setup.specs.Descriptors.{machineOf, Describes, Described};
 ghost use Rattle.rows.specs.Rows.{RowStands};
 ghost use Rattle.rows.specs.Steps.{Stepped};
@@ -31,27 +31,12 @@ pub enum Answer {
     Refused(u8, usize),
 }
 
-// The parameter that a row names; 0 where it names none.
-fn parameter(term: Term) -> usize
-    ensures { λ r. ⌜ r ≡ parameterOf term ⌝ }
-{
-    match term {
-        Term::Lam(p, _) => p as usize,
-        Term::App(_, _) => 0,
-        Term::Op(_, _, _) => 0,
-        Term::Var(p) => p as usize,
-        Term::Num(_) => 0,
-        Term::Enc(_, _) => 0,
-    }
-}
-
-// The parameter with a number; PLAIN with type row 0 where there is none.
-fn param_at(params: [Param; 64], count: usize, p: usize) -> Param
-    requires { ⌜ count ≤ 64 ⌝ }
-    ensures { λ r. ⌜ r ≡ paramIn (take count params) p ⌝ }
+// The parameter read at place p, where p is below the count; PLAIN with type row 0 elsewhere.
+fn standing(param: Param, p: usize, count: usize) -> Param
+    ensures { λ r. ⌜ ((params : List Param) → param ≡ paramIn params p → r ≡ paramIn (take count params) p) ⌝ }
 {
     if p < count {
-        return params[p];
+        return param;
     }
     Param {
         qualifier: 0,
@@ -61,9 +46,8 @@ fn param_at(params: [Param; 64], count: usize, p: usize) -> Param
 
 // Takes row i into the state, with the nodes of the parameter that it names.
 fn take_row(
-    params: [Param; 64],
-    count: usize,
-    row: TermRow,
+    param: Param,
+    term: Term,
     i: usize,
     parent: &mut [u16; 327],
     bound: &mut [u8; 327],
@@ -73,12 +57,9 @@ fn take_row(
     left: &mut [u16; 704],
     right: &mut [u16; 704],
 ) -> Verdict
-    requires { ⌜ count ≤ 64 ⌝ ∗ ⌜ TypeClasses (now up) (now kind) ⌝ ∗ ⌜ Parts (now kids) ⌝ ∗ ⌜ Classes (now parent) (now bound) ⌝ ∗ ⌜ RowStands i (row .term) (paramIn (take count params) (parameterOf (row .term)) .qualifier) (paramIn (take count params) (parameterOf (row .term)) .typerow) × Describes (now kids) i (row .term) (paramIn (take count params) (parameterOf (row .term)) .qualifier) (paramIn (take count params) (parameterOf (row .term)) .typerow) ⌝ }
-    ensures { λ r. ⌜ Stepped (now (kids .entry)) (now (up .entry)) (now (kind .entry)) (now (parent .entry)) (now (bound .entry)) (now (up .exit)) (now (kind .exit)) (now (parent .exit)) (now (bound .exit)) (RowHolds i (row .term) (paramIn (take count params) (parameterOf (row .term)) .qualifier) (paramIn (take count params) (parameterOf (row .term)) .typerow)) (RowFits (row .term)) r ⌝ }
+    requires { ⌜ TypeClasses (now up) (now kind) ⌝ ∗ ⌜ Parts (now kids) ⌝ ∗ ⌜ Classes (now parent) (now bound) ⌝ ∗ ⌜ RowStands i term (param .qualifier) (param .typerow) × Describes (now kids) i term (param .qualifier) (param .typerow) ⌝ }
+    ensures { λ r. ⌜ Stepped (now (kids .entry)) (now (up .entry)) (now (kind .entry)) (now (parent .entry)) (now (bound .entry)) (now (up .exit)) (now (kind .exit)) (now (parent .exit)) (now (bound .exit)) (RowHolds i term (param .qualifier) (param .typerow)) (RowFits term) r ⌝ }
 {
-    let term = row.term;
-    let p = parameter(term);
-    let param = param_at(params, count, p);
     let q = param.qualifier as usize;
     let ty = param.typerow as usize;
     rows::step(parent, bound, up, kind, kids, left, right, i, term, q, ty)
@@ -130,25 +111,18 @@ fn take_rows(
     left: &mut [u16; 704],
     right: &mut [u16; 704],
 ) -> Run
-    requires { ⌜ (paramcount ≤ 64) × (0 < rows) × (rows ≤ 256) ⌝ ∗ ⌜ TypeClasses (now up) (now kind) ⌝ ∗ ⌜ Parts (now kids) ⌝ ∗ ⌜ Classes (now parent) (now bound) ⌝ ∗ ⌜ ((i : ℕ) → i < rows → RowReady params paramcount terms (now kids) i) ⌝ }
+    requires { ⌜ (0 < rows) × (rows ≤ 256) ⌝ ∗ ⌜ TypeClasses (now up) (now kind) ⌝ ∗ ⌜ Parts (now kids) ⌝ ∗ ⌜ Classes (now parent) (now bound) ⌝ ∗ ⌜ ((i : ℕ) → i < rows → RowReady params paramcount terms (now kids) i) ⌝ }
     ensures { λ r. ⌜ RunFrom params paramcount terms (now (kids .entry)) (now (up .entry)) (now (kind .entry)) (now (parent .entry)) (now (bound .entry)) (now (up .exit)) (now (kind .exit)) (now (parent .exit)) (now (bound .exit)) rows r ⌝ }
 {
     let mut i: usize = 0;
     while i < rows {
         let row = terms[i];
-        match take_row(
-            params,
-            paramcount,
-            row,
-            i,
-            parent,
-            bound,
-            up,
-            kind,
-            kids,
-            left,
-            right,
-        ) {
+        let term = row.term;
+        let p = setup::parameter(term);
+        // read here: to pass the array on would copy it for every row
+        let named = params[p];
+        let param = standing(named, p, paramcount);
+        match take_row(param, term, i, parent, bound, up, kind, kids, left, right) {
             Verdict::Fine => {
                 i += 1;
             }

@@ -8,15 +8,6 @@ use Rattle.setup.proofs.describe_term.Tie as tie
 enum-known-term : tie.Need-enum-known-term
 enum-known-term c = search needs
 
-cast-param : tie.Need-cast-param
-cast-param c = search needs
-
-mul-param : tie.Need-mul-param
-mul-param c = search needs
-
-array-copy-out-param : tie.Need-array-copy-out-param
-array-copy-out-param c = let nodes = rw (c .before .term .given .1) at (c .before .before .before .pre .1 .1) in nodes .0
-
 add-write : tie.Need-add-write
 add-write c = search needs
 
@@ -25,20 +16,20 @@ cast-write c = search needs
 
 add-write-2 : tie.Need-add-write-2
 add-write-2 c =
-    let begin = c .before .before .before .before .before .before in
-    let nodes = rw (c .before .before .before .before .term .given .1) at (begin .pre .1 .1) in
+    let begin = c .before .before .before .before .before in
+    let nodes = rw (c .before .before .before .term .given .1) at (begin .pre .1 .1) in
     omega (arith, begin .pre .1 .0)
 
 add-write-3 : tie.Need-add-write-3
 add-write-3 c =
-    let begin = c .before .before .before .before .before .before in
-    let nodes = rw (c .before .before .before .before .term .given .1) at (begin .pre .1 .1) in
+    let begin = c .before .before .before .before .before in
+    let nodes = rw (c .before .before .before .term .given .1) at (begin .pre .1 .1) in
     omega (arith, begin .pre .1 .0)
 
 write-requires : tie.Need-write-requires
 write-requires c κs =
-    let begin = c .before .before .before .before .before .before in
-    let nodes = rw (c .before .before .before .before .term .given .1) at (begin .pre .1 .1) in
+    let begin = c .before .before .before .before .before in
+    let nodes = rw (c .before .before .before .term .given .1) at (begin .pre .1 .1) in
     (begin .pre .0, omega (arith, begin .pre .1 .0))
 
 enum-known-term-2 : tie.Need-enum-known-term-2
@@ -87,7 +78,7 @@ enum-told-4 : tie.Need-enum-told-4
 enum-told-4 c = search needs
 
 returns : tie.Need-returns
-returns c = (c .write .ensures .0, rw (c .before .before .before .before .before .term .given .1) (c .write .ensures .1))
+returns c = (c .write .ensures .0, rw (c .before .before .before .before .term .given .1) (c .write .ensures .1))
 
 returns-2 : tie.Need-returns-2
 returns-2 c = (c .write2 .ensures .0, rw (c .before .before .before .term2 .given .1) (c .write2 .ensures .1))
@@ -109,9 +100,6 @@ describe-term-spec =
     tie.close
     (tie.spec
     enum-known-term
-    cast-param
-    mul-param
-    array-copy-out-param
     add-write
     cast-write
     add-write-2

@@ -1,0 +1,38 @@
+//! The rival: a solver in ordinary safe Rust, written for speed.
+//!
+//! Union by rank with path halving, an occurs check where an unknown type is bound, and one row
+//! after the other. Its state is kept between calls, so that nothing is allocated while it is measured.
+
+#![forbid(unsafe_code)]
+
+mod closed;
+mod qualifiers;
+mod report;
+mod solver;
+mod types;
+
+use second::report::LONGEST_REPORT;
+use second::{Answer, Table};
+
+pub use closed::closed;
+pub use qualifiers::MEET;
+pub use solver::{Refusal, Slots, Solver};
+pub use types::Failure;
+
+/// A whole infer call, as [`Table::infer`] answers it.
+pub fn infer(solver: &mut Solver, slots: &mut Slots, table: &Table, buffer: &mut [u8]) -> Answer {
+    let refused = |number, row| Answer { number, row, length: 0 };
+    if buffer.len() < LONGEST_REPORT {
+        return refused(11, 0);
+    }
+    if !closed(table) {
+        return refused(10, 0);
+    }
+    match solver.solve(table, slots) {
+        Ok(()) => {
+            let length = report::write(table, slots, buffer);
+            Answer { number: 0, row: 0, length: length as u32 }
+        }
+        Err(refusal) => refused(refusal.number(), refusal.row()),
+    }
+}

@@ -1,0 +1,91 @@
+//! The tables that are measured: random ones from a fixed seed.
+
+use crate::deep_sharing::deep_sharing;
+use crate::rival::{Failure, Refusal, Slots, Solver};
+use second::generate::{chain, closed_program, text_of_table, Random};
+use second::rows::Entry;
+use second::{line, place, Table};
+
+/// A table with the text that declares it.
+pub struct Sample {
+    /// The lines, each ended by a line feed.
+    pub text: Vec<u8>,
+    /// What the lines declare.
+    pub table: Table,
+}
+
+impl Sample {
+    /// The table of a text whose lines are all accepted, without the checks of add.
+    pub fn of_text(text: &[u8]) -> Sample {
+        let mut table = Table::fresh();
+        for entry in place::lines(text).filter_map(line::read) {
+            match entry {
+                Entry::T(_, row) => table.types.push(row),
+                Entry::P(_, parameter) => table.params.push(parameter),
+                Entry::E(_, term) => table.terms.push(term),
+            }
+        }
+        Sample { text: text.to_vec(), table }
+    }
+}
+
+/// So many accepted programs of exactly so many rows.
+pub fn accepted(random: &mut Random, count: usize, rows: usize) -> Vec<Sample> {
+    let mut judge = Judge::default();
+    let programs = std::iter::repeat_with(|| any_program(random, rows));
+    programs.filter(|s| s.table.terms.len() == rows && judge.cause(s) == 0).take(count).collect()
+}
+
+/// So many refused programs of 256 rows; the four causes have equal parts.
+pub fn refused(random: &mut Random, count: usize) -> Vec<Sample> {
+    let mut judge = Judge::default();
+    let mut found = [0; CAUSES];
+    let mut programs = std::iter::repeat_with(|| match random.one_in(4) {
+        true => Sample::of_text(&chain(random)),
+        false => any_program(random, Table::TERM_LIMIT),
+    });
+    let mut samples = vec![];
+    while samples.len() < count {
+        let Some(sample) = programs.next() else { break };
+        let cause = judge.cause(&sample);
+        let wanted = cause != 0 && found[cause] < count.div_ceil(CAUSES - 1);
+        if wanted && sample.table.terms.len() == Table::TERM_LIMIT {
+            found[cause] += 1;
+            samples.push(sample);
+        }
+    }
+    samples
+}
+
+/// So many programs of 256 rows with deep sharing, accepted or not.
+pub fn shared(random: &mut Random, count: usize) -> Vec<Sample> {
+    (0..count).map(|_| Sample::of_text(&deep_sharing(random))).collect()
+}
+
+/// A random closed program with its redeclarations made.
+fn any_program(random: &mut Random, rows: usize) -> Sample {
+    let table = closed_program(random, rows).table();
+    Sample { text: text_of_table(&table), table }
+}
+
+/// Accepted, 21 by a clash, 21 by a cycle, 22, 23.
+const CAUSES: usize = 5;
+
+/// Sorts programs by what the rival says; the measure compares all its answers with others.
+#[derive(Default)]
+struct Judge {
+    solver: Solver,
+    slots: Slots,
+}
+
+impl Judge {
+    fn cause(&mut self, sample: &Sample) -> usize {
+        match self.solver.solve(&sample.table, &mut self.slots) {
+            Ok(()) => 0,
+            Err(Refusal::Types(Failure::Clash, _)) => 1,
+            Err(Refusal::Types(Failure::Cycle, _)) => 2,
+            Err(Refusal::Apart(_)) => 3,
+            Err(Refusal::Broken(_)) => 4,
+        }
+    }
+}
