@@ -96,14 +96,69 @@ pub fn type_row(
     }
 }
 
-// Whether a row leaves no type that contains itself, as far as it can have made one: only an APP can, below its function.
-fn stays_finite(up: &[u16; 327], kind: &[u16; 327], kids: &[u16; 1280], term: Term) -> bool
+// Whether the application of a function's node to an argument's can make a type that contains itself: it is applied to itself, or an arrow is made
+// one with another type. The row's own node is new, so that no type contains it. To search where there is no need does no harm, and a type
+// that is missed here is found at the end.
+fn can_close(up: &[u16; 327], kind: &[u16; 327], kids: &[u16; 1280], f: usize, a: usize) -> bool
+    requires { ⌜ TypeClasses (now up) (now kind) ⌝ ∗ ⌜ Parts (now kids) ⌝ ∗ ⌜ (f < 327) × (a < 327) ⌝ }
+{
+    let function = forest::find(up, f);
+    let argument = forest::find(up, a);
+    if function == argument {
+        return true;
+    }
+    let k = kind[function] as usize;
+    if k < 2 {
+        return 1 < kind[argument];
+    }
+    let parameter = forest::find(up, graph::part(kids, k - 2, 1));
+    if parameter == argument {
+        return false;
+    }
+    if kind[parameter] < 2 {
+        return 1 < kind[argument];
+    }
+    true
+}
+
+// Whether a row calls for a search: only an APP can.
+fn calls_for_search(up: &[u16; 327], kind: &[u16; 327], kids: &[u16; 1280], term: Term) -> bool
+    requires { ⌜ TypeClasses (now up) (now kind) ⌝ ∗ ⌜ Parts (now kids) ⌝ }
+{
+    match term {
+        Term::App(f, a) => {
+            if f < 256 {
+                if a < 256 {
+                    return can_close(up, kind, kids, f as usize + 64, a as usize + 64);
+                }
+            }
+            true
+        }
+        Term::Lam(_, _) => false,
+        Term::Op(_, _, _) => false,
+        Term::Var(_) => false,
+        Term::Num(_) => false,
+        Term::Enc(_, _) => false,
+    }
+}
+
+// Whether a row leaves no type that contains itself, as far as a search from an APP's argument shows: what it makes one lies there or below.
+fn stays_finite(
+    up: &[u16; 327],
+    kind: &[u16; 327],
+    kids: &[u16; 1280],
+    term: Term,
+    search: bool,
+) -> bool
     requires { ⌜ TypeClasses (now up) (now kind) ⌝ ∗ ⌜ Parts (now kids) ⌝ }
     ensures { λ r. ⌜ NoneIf r (now (up .entry)) (now (kind .entry)) (now (kids .entry)) ⌝ }
 {
+    if !search {
+        return true;
+    }
     match term {
-        Term::App(f, _) => {
-            let node = f as usize + 64;
+        Term::App(_, a) => {
+            let node = a as usize + 64;
             if node < 327 {
                 occurs::finite_from(up, kind, kids, node)
             } else {
@@ -160,10 +215,11 @@ pub fn step(
     requires { ⌜ TypeClasses (now up) (now kind) ⌝ ∗ ⌜ Parts (now kids) ⌝ ∗ ⌜ Classes (now parent) (now bound) ⌝ ∗ ⌜ RowStands i term q ty ⌝ ∗ ⌜ Describes (now kids) i term q ty ⌝ }
     ensures { λ r. ⌜ Stepped (now (kids .entry)) (now (up .entry)) (now (kind .entry)) (now (parent .entry)) (now (bound .entry)) (now (up .exit)) (now (kind .exit)) (now (parent .exit)) (now (bound .exit)) (RowHolds i term q ty) (RowFits term) r ⌝ }
 {
+    let search = calls_for_search(up, kind, kids, term);
     let Joining::Pairs(n) = type_row(up, kind, kids, left, right, i, term, q, ty) else {
         return Verdict::Shapes;
     };
-    if !stays_finite(up, kind, kids, term) {
+    if !stays_finite(up, kind, kids, term, search) {
         return Verdict::Shapes;
     }
     if !qualifiers::unite_all(parent, bound, left, right, n) {

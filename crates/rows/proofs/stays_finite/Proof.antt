@@ -4,6 +4,9 @@ use borrow.Author.Needs.{needs}
 use Rattle.rows.proofs.stays_finite.Statement.{statement}
 use Rattle.rows.proofs.stays_finite.Tie as tie
 
+returns : tie.Need-returns
+returns c = λ e. absurd (true≢false e)
+
 enum-known-term : tie.Need-enum-known-term
 enum-known-term c = search needs
 
@@ -31,11 +34,8 @@ enum-told-4 c = search needs
 enum-told-5 : tie.Need-enum-told-5
 enum-told-5 c = search needs
 
-returns : tie.Need-returns
-returns c = search needs
-
 returns-2 : tie.Need-returns-2
-returns-2 c = λ e. absurd (true≢false e)
+returns-2 c = search needs
 
 returns-3 : tie.Need-returns-3
 returns-3 c = λ e. absurd (true≢false e)
@@ -52,10 +52,14 @@ returns-6 c = λ e. absurd (true≢false e)
 returns-7 : tie.Need-returns-7
 returns-7 c = λ e. absurd (true≢false e)
 
+returns-8 : tie.Need-returns-8
+returns-8 c = λ e. absurd (true≢false e)
+
 pub stays-finite-spec : {M : Type 1} → statement M
 stays-finite-spec =
     tie.close
     (tie.spec
+    returns
     enum-known-term
     cast-node
     add-node
@@ -65,10 +69,10 @@ stays-finite-spec =
     enum-told-3
     enum-told-4
     enum-told-5
-    returns
     returns-2
     returns-3
     returns-4
     returns-5
     returns-6
-    returns-7)
+    returns-7
+    returns-8)

@@ -5,6 +5,9 @@ use borrow.Author.Needs.{needs}
 use Rattle.rows.proofs.step.Statement.{statement}
 use Rattle.rows.proofs.step.Tie as tie
 
+calls-for-search-requires : tie.Need-calls-for-search-requires
+calls-for-search-requires c κs = search needs
+
 type-row-requires : tie.Need-type-row-requires
 type-row-requires c κs = search needs
 
@@ -20,7 +23,7 @@ returns c = rw (c .enum-told .given .1) at (c .before .before .type-row .ensures
 stays-finite-requires : tie.Need-stays-finite-requires
 stays-finite-requires c κs =
     let joined = rw (c .before .before .before .n .given .1) at (c .before .before .before .before .before .type-row .ensures) in
-    (joined .classes, c .before .before .before .before .before .before .before .before .before .before .pre .1 .0)
+    (joined .classes, c .before .before .before .before .before .before .before .before .before .before .before .before .before .pre .1 .0)
 
 returns-2 : tie.Need-returns-2
 returns-2 c =
@@ -30,7 +33,7 @@ returns-2 c =
 unite-all-requires : tie.Need-unite-all-requires
 unite-all-requires c κs =
     let joined = rw (c .before .before .before .before .before .before .before .before .before .n .given .1) at (c .before .before .before .before .before .before .before .before .before .before .before .type-row .ensures) in
-    (c .before .before .before .before .before .before .before .before .before .before .before .before .before .before .before .before .pre .1 .1 .0, joined .room .pairs)
+    (c .before .before .before .before .before .before .before .before .before .before .before .before .before .before .before .before .before .before .before .pre .1 .1 .0, joined .room .pairs)
 
 returns-3 : tie.Need-returns-3
 returns-3 c =
@@ -38,7 +41,7 @@ returns-3 c =
     step-apart joined (c .before .unite-all .ensures) (not-true _ (c .if2 .taken))
 
 bound-row-requires : tie.Need-bound-row-requires
-bound-row-requires c κs = (c .before .before .before .unite-all .ensures .classes, c .before .before .before .before .before .before .before .before .before .before .before .before .before .before .before .before .before .before .before .before .pre .1 .1 .1 .0)
+bound-row-requires c κs = (c .before .before .before .unite-all .ensures .classes, c .before .before .before .before .before .before .before .before .before .before .before .before .before .before .before .before .before .before .before .before .before .before .before .pre .1 .1 .1 .0)
 
 returns-4 : tie.Need-returns-4
 returns-4 c =
@@ -54,6 +57,7 @@ pub step-spec : {M : Type 1} → statement M
 step-spec =
     tie.close
     (tie.spec
+    calls-for-search-requires
     type-row-requires
     enum-known-n
     enum-told
