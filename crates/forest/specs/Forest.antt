@@ -2,7 +2,7 @@
 use Prim.Native.Nat.{ℕ, _<_, _≤_}
 use mathlib.Core.List.{List}
 use mathlib.Core.Path.{_≡_}
-use lib.ListN.{length, getD}
+use lib.ListN.{length, getD, set}
 
 -- The parent of a node; no node past the list is asked for.
 abbrev pub up : List ℕ → ℕ → ℕ
@@ -27,3 +27,8 @@ pub record Found (p : List ℕ) (x r : ℕ) : Type 0 where
   pub low : r ≤ x
   pub root : up p r ≡ r
   pub reached : Reach p x r
+
+-- The root r of a node x was found, and x put directly under it.
+pub record Rooted (p p′ : List ℕ) (x r : ℕ) : Type 0 where
+  pub found : Found p x r
+  pub shorter : p′ ≡ set p x r

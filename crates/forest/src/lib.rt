@@ -2,7 +2,7 @@
 ghost use mathlib.Core.Path.{_≡_};
 ghost use Prim.Native.Nat.{ℕ, _<_, _≤_};
 ghost use lib.ListN.{set};
-ghost use Rattle.forest.specs.Forest.{Forest, Found};
+ghost use Rattle.forest.specs.Forest.{Forest, Found, Rooted};
 
 // The root above a node. Two links at a time: a node directly under its root ends as fast as a root does.
 pub fn find(parent: &[u16; 327], node: usize) -> usize
@@ -26,4 +26,14 @@ pub fn put_under(parent: &mut [u16; 327], node: usize, above: usize)
     ensures { λ _. ⌜ now (parent .exit) ≡ set (now (parent .entry)) node above ⌝ }
 {
     parent[node] = above as u16;
+}
+
+// The root above a node. The node is put directly under it, so that the next search is short.
+pub fn root(parent: &mut [u16; 327], node: usize) -> usize
+    requires { ⌜ Forest (now parent) ⌝ ∗ ⌜ node < 327 ⌝ }
+    ensures { λ r. ⌜ Rooted (now (parent .entry)) (now (parent .exit)) node r ⌝ }
+{
+    let r = find(parent, node);
+    put_under(parent, node, r);
+    r
 }

@@ -11,9 +11,9 @@ use lib.Seq.{set-getD}
 use Rattle.scheme.specs.Meet.{meetOf}
 use Rattle.scheme.proofs.Order.{rand-greatest}
 use Rattle.scheme.proofs.Meets.{meet-is-left}
-use Rattle.forest.specs.Forest.{up, Forest, Linked, Reach, here, further, Found}
+use Rattle.forest.specs.Forest.{up, Forest, Linked, Reach, here, further, Found, Rooted}
 use Rattle.forest.proofs.Links.{by-eq, up-same, up-other, linked-into, linked-outof, linked-joins, shorter-into, shorter-outof}
-use Rattle.qualifiers.specs.Classes.{boundAt, Classes, Rooted, Roots, United, UnitedAll}
+use Rattle.qualifiers.specs.Classes.{boundAt, Classes, Roots, United, UnitedAll}
 use Rattle.qualifiers.proofs.Bounds.{sinks-along, put-under-keeps, lowered}
 
 -- From a root no other node is reached.
@@ -21,8 +21,18 @@ root-reaches : {p : List ℕ} {x r : ℕ} → up p x ≡ x → Reach p x r → r
 root-reaches root here = refl
 root-reaches root (further reach node) = cc (root-reaches root reach)
 
-pub rooted : {p : List ℕ} → Forest p → (x r : ℕ) → x < 327 → Found p x r → Rooted p (set p x r) x r
-rooted {p} f x r node found =
+-- A node put directly under its root: roots, bounds and readings stay.
+pub record Shortened (p p′ : List ℕ) (x r : ℕ) : Type 0 where
+  pub low : r ≤ x
+  pub under : up p′ x ≡ r
+  pub root : up p′ r ≡ r
+  pub roots : (z : ℕ) → up p z ≡ z → up p′ z ≡ z
+  pub classes : (b : List ℕ) → Classes p b → Classes p′ b
+  pub into : (v : ℕ → ℕ) → Linked p v → Linked p′ v
+  pub outof : (v : ℕ → ℕ) → Linked p′ v → Linked p v
+
+found-shortened : {p : List ℕ} → Forest p → (x r : ℕ) → x < 327 → Found p x r → Shortened p (set p x r) x r
+found-shortened {p} f x r node found =
     let stays : (z : ℕ) → up p z ≡ z → up (set p x r) z ≡ z =
     λ z root. by-eq z x (λ e. cc (up-same f x r node, root-reaches {x = x} {r = r} (cc) (found .reached))) (λ n. up-other f x r node z n ∙ root) in
     record {
@@ -34,6 +44,9 @@ rooted {p} f x r node found =
       into = shorter-into f node found;
       outof = shorter-outof f node found;
     }
+
+pub shortened : {p p′ b : List ℕ} {x r : ℕ} → Classes p b → x < 327 → Rooted p p′ x r → Shortened p p′ x r
+shortened {p} {x = x} {r} k node rooted = subst (λ (l : List ℕ). Shortened p l x r) (sym (rooted .shorter)) (found-shortened (k .forest) x r node (rooted .found))
 
 module _ {p b : List ℕ} (k : Classes p b) (low high : ℕ) (roots : Roots p low high) where
   -- Two constants have their own codes in every reading.
@@ -85,7 +98,13 @@ united-turned u =
     }
 
 -- Both nodes were put under their roots, which the readings do not tell from them.
-module _ {p p₁ p₂ b : List ℕ} {x y a c : ℕ} (asked : Classes p b × ((x < 327) × (y < 327))) (first : Rooted p p₁ x a) (second : Rooted p₁ p₂ y c) where
+module _ {p p₁ p₂ b : List ℕ} {x y a c : ℕ} (asked : Classes p b × ((x < 327) × (y < 327))) (one : Rooted p p₁ x a) (two : Rooted p₁ p₂ y c) where
+  first : Shortened p p₁ x a
+  first = shortened (asked .0) (asked .1 .0) one
+
+  second : Shortened p₁ p₂ y c
+  second = shortened (first .classes b (asked .0)) (asked .1 .1) two
+
   kept : Classes p₂ b
   kept = second .classes b (first .classes b (asked .0))
 

@@ -28,16 +28,6 @@ Constant v = (c : ℕ) → c < 7 → v c ≡ c
 abbrev pub Bounded : List ℕ → (ℕ → ℕ) → Type 0
 Bounded b v = (x : ℕ) → x < 327 → atOrBelow (v x) (boundAt b x) ≡ true
 
--- The root r of a node x was found, and x put directly under it: roots, bounds and readings stay.
-pub record Rooted (p p′ : List ℕ) (x r : ℕ) : Type 0 where
-  pub low : r ≤ x
-  pub under : up p′ x ≡ r
-  pub root : up p′ r ≡ r
-  pub roots : (z : ℕ) → up p z ≡ z → up p′ z ≡ z
-  pub classes : (b : List ℕ) → Classes p b → Classes p′ b
-  pub into : (v : ℕ → ℕ) → Linked p v → Linked p′ v
-  pub outof : (v : ℕ → ℕ) → Linked p′ v → Linked p v
-
 -- Two roots, the smaller first.
 pub record Roots (p : List ℕ) (low high : ℕ) : Type 0 where
   pub less : low < high

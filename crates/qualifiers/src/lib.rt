@@ -6,17 +6,7 @@ ghost use lib.ListN.{length};
 ghost use Rattle.scheme.specs.Order.{atOrBelow};
 ghost use Rattle.forest.specs.Forest.{Forest};
 ghost use Rattle.forest.specs.Pairs.{Pairs};
-ghost use Rattle.qualifiers.specs.Classes.{boundAt, Classes, Rooted, Roots, United, UnitedAll, Restricted, Tested, Greatest};
-
-// The root of a node. The node is put directly under it, so that the next search is short.
-fn root(parent: &mut [u16; 327], x: usize) -> usize
-    requires { ⌜ Forest (now parent) ⌝ ∗ ⌜ x < 327 ⌝ }
-    ensures { λ r. ⌜ Rooted (now (parent .entry)) (now (parent .exit)) x r ⌝ }
-{
-    let r = forest::find(parent, x);
-    forest::put_under(parent, x, r);
-    r
-}
+ghost use Rattle.qualifiers.specs.Classes.{boundAt, Classes, Roots, United, UnitedAll, Restricted, Tested, Greatest};
 
 // Puts a root under a smaller one, which takes the meet of the two bounds; RAND leaves the other as it is. False: both are constants.
 fn join(parent: &mut [u16; 327], bound: &mut [u8; 327], low: usize, high: usize) -> bool
@@ -40,8 +30,8 @@ pub fn unite(parent: &mut [u16; 327], bound: &mut [u8; 327], x: usize, y: usize)
     requires { ⌜ Classes (now parent) (now bound) ⌝ ∗ ⌜ (x < 327) × (y < 327) ⌝ }
     ensures { λ r. ⌜ United (now (parent .entry)) (now (bound .entry)) (now (parent .exit)) (now (bound .exit)) x y r ⌝ }
 {
-    let a = root(parent, x);
-    let b = root(parent, y);
+    let a = forest::root(parent, x);
+    let b = forest::root(parent, y);
     if a == b {
         return true;
     }

@@ -6,10 +6,10 @@ use mathlib.Core.Logic.{_⊎_, ⊎-elim}
 use mathlib.Core.Path.{_≡_, refl, sym, ap, _∙_}
 use lib.ListN.{set}
 use Rattle.model.specs.Typing.{Ty}
-use Rattle.forest.specs.Forest.{up}
+use Rattle.forest.specs.Forest.{up, Rooted}
 use Rattle.forest.proofs.Links.{reach-same, linked-into, linked-outof, linked-joins, shorter-into, shorter-outof}
 use Rattle.graph.specs.Types.{kindAt, TypeClasses, Reads, roots, Same, Clashes}
-use Rattle.unification.specs.Merging.{Equation, Rooted, TwoRoots, Reduced, Merged}
+use Rattle.unification.specs.Merging.{Equation, TwoRoots, Reduced, Merged}
 use Rattle.unification.specs.declared.Rest.{Rest}
 use Rattle.unification.specs.declared.Rest.the-variants.{Nothing, Arrows, Clash}
 use Rattle.unification.proofs.Classes.{Has, has, has-none, has-at, relinked, kind-same, kind-other, kind-classes, kind-into, kind-outof, kind-at, parent-classes, roots-less, shorter-classes, shorter-roots, shorter-stays}

@@ -9,11 +9,6 @@ use Rattle.graph.specs.Types.{TypeClasses, Reads, roots, arrowOf, Same, Clashes
 use Rattle.unification.specs.declared.Rest.{Rest}
 use Rattle.unification.specs.declared.Rest.the-variants.{Nothing, Arrows, Clash}
 
--- The root of a node is found, and the node put directly under it.
-pub record Rooted (p p′ : List ℕ) (x r : ℕ) : Type 0 where
-  pub found : Found p x r
-  pub shorter : p′ ≡ set p x r
-
 -- Two roots, the smaller first.
 pub record TwoRoots (p : List ℕ) (low high : ℕ) : Type 0 where
   pub order : low < high

@@ -6,7 +6,7 @@ ghost use Rattle.forest.specs.Forest.{Forest};
 ghost use Rattle.forest.specs.Pairs.{Pairs};
 ghost use Rattle.graph.specs.Types.{Parts, TypeClasses, Room, roots, Same, IsInt, IsArrow};
 ghost use Rattle.unification.specs.Answers.{Answered};
-ghost use Rattle.unification.specs.Merging.{Rooted, TwoRoots, SameArrow, Merged};
+ghost use Rattle.unification.specs.Merging.{TwoRoots, SameArrow, Merged};
 ghost use Rattle.unification.specs.Noted.{Noted, NotedArrows};
 
 // How an equation of types went: the number of pairs of qualifiers noted by now, or no way.
@@ -38,16 +38,6 @@ pub fn note(left: &mut [u16; 704], right: &mut [u16; 704], n: usize, x: usize, y
     put(left, n, x);
     put(right, n, y);
     n + 1
-}
-
-// The root of a node. The node is put directly under it, so that the next search is short.
-fn root(up: &mut [u16; 327], x: usize) -> usize
-    requires { ⌜ Forest (now up) ⌝ ∗ ⌜ x < 327 ⌝ }
-    ensures { λ r. ⌜ Rooted (now (up .entry)) (now (up .exit)) x r ⌝ }
-{
-    let r = forest::find(up, x);
-    forest::put_under(up, x, r);
-    r
 }
 
 // Puts a root under a smaller one, which takes the kind k.
@@ -94,8 +84,8 @@ fn merge(up: &mut [u16; 327], kind: &mut [u16; 327], a: usize, b: usize) -> Rest
     requires { ⌜ TypeClasses (now up) (now kind) ⌝ ∗ ⌜ (a < 327) × (b < 327) ⌝ }
     ensures { λ r. ⌜ Merged (now (up .entry)) (now (kind .entry)) (now (up .exit)) (now (kind .exit)) a b r ⌝ }
 {
-    let x = root(up, a);
-    let y = root(up, b);
+    let x = forest::root(up, a);
+    let y = forest::root(up, b);
     if x == y {
         return Rest::Nothing;
     }
@@ -187,7 +177,7 @@ pub fn make_int(
     requires { ⌜ TypeClasses (now up) (now kind) ⌝ ∗ ⌜ Parts (now kids) ⌝ ∗ ⌜ Room (now up) (now left) (now right) n ⌝ ∗ ⌜ x < 327 ⌝ }
     ensures { λ r. ⌜ Answered (now (kids .entry)) (now (up .entry)) (now (kind .entry)) (now (left .entry)) (now (right .entry)) (now (up .exit)) (now (kind .exit)) (now (left .exit)) (now (right .exit)) n (IsInt x) r ⌝ }
 {
-    let r = root(up, x);
+    let r = forest::root(up, x);
     let k = kind[r];
     if k == 0 {
         kind[r] = 1;
@@ -213,7 +203,7 @@ pub fn make_arrow(
     requires { ⌜ TypeClasses (now up) (now kind) ⌝ ∗ ⌜ Parts (now kids) ⌝ ∗ ⌜ Room (now up) (now left) (now right) n ⌝ ∗ ⌜ (n + 2 ≤ 50) × (x < 327) × (d < 320) ⌝ }
     ensures { λ r. ⌜ Answered (now (kids .entry)) (now (up .entry)) (now (kind .entry)) (now (left .entry)) (now (right .entry)) (now (up .exit)) (now (kind .exit)) (now (left .exit)) (now (right .exit)) n (IsArrow (now (kids .entry)) x d) r ⌝ }
 {
-    let r = root(up, x);
+    let r = forest::root(up, x);
     let k = kind[r];
     if k == 0 {
         kind[r] = (d + 2) as u16;

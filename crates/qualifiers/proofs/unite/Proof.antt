@@ -1,7 +1,7 @@
 -- What is shown of the roots holds of the nodes, which every reading gives what their roots have.
 use native.Mathlib.Omega.{arith}
 use borrow.Author.Needs.{needs}
-use Rattle.qualifiers.proofs.Uniting.{roots-rising, roots-falling, united-already, united-roots, united-turned}
+use Rattle.qualifiers.proofs.Uniting.{shortened, roots-rising, roots-falling, united-already, united-roots, united-turned}
 use Rattle.qualifiers.proofs.unite.Statement.{statement}
 use Rattle.qualifiers.proofs.unite.Tie as tie
 
@@ -11,7 +11,7 @@ root-requires c κs = search needs
 root-requires-2 : tie.Need-root-requires-2
 root-requires-2 c κs =
     let start = c .before .before .before in
-    (c .before .root .ensures .classes _ (start .pre .0) .forest, start .pre .1 .1)
+    (shortened (start .pre .0) (start .pre .1 .0) (c .before .root .ensures) .classes _ (start .pre .0) .forest, start .pre .1 .1)
 
 returns : tie.Need-returns
 returns c =
