@@ -48,14 +48,18 @@ shape-word-length Shape.int = omega arith
 shape-word-length Shape.arrow = omega arith
 shape-word-length Shape.any = omega arith
 
+-- No number below a limit has more digits than one test over all of them finds.
+pub digits-below : (limit most n : ℕ) → every limit (λ k. leb (length (decimal k)) most) ≡ true → n < limit → length (decimal n) ≤ most
+digits-below limit most n tested h = leb-true _ _ (every-at limit (λ k. leb (length (decimal k)) most) tested n h)
+
 -- The digits of the two counts.
 small-count : (n : ℕ) → n ≤ 64 → length (decimal n) ≤ 2
 unfolding decimal
-small-count n h = leb-true _ _ (every-at 65 (λ k. leb (length (decimal k)) 2) refl n (omega arith))
+small-count n h = digits-below 65 2 n refl (omega arith)
 
 large-count : (n : ℕ) → n ≤ 256 → length (decimal n) ≤ 3
 unfolding decimal
-large-count n h = leb-true _ _ (every-at 257 (λ k. leb (length (decimal k)) 3) refl n (omega arith))
+large-count n h = digits-below 257 3 n refl (omega arith)
 
 -- The sums of the bounds at the limits.
 variables-total : total (λ k. 9 + length (decimal k)) 0 64 ≡ 694

@@ -3,16 +3,14 @@ use Prim.Native.Nat.{ℕ, _+_, _*_, _≤_}
 use native.Mathlib.Omega.{arith}
 use mathlib.Core.List.{List, [], _∷_, _++_}
 use mathlib.Core.Path.{_≡_, refl, sym, ap, subst, _∙_}
-use lib.Dec.{leb}
 use lib.ListN.{length, take, drop, length-append}
 use lib.Seq.{sets-eq, length-sets}
-use borrow.Author.Tests.{leb-true}
-use Rattle.scheme.proofs.Every.{every-at}
 use Rattle.model.specs.Lists.{bytes}
 use Rattle.model.specs.Number.{decimal}
 use Rattle.model.specs.Report.{line}
 use Rattle.model.specs.Session.{Infers}
 use Rattle.model.specs.Text.{Prints, Returns}
+use Rattle.model.proofs.Length.{digits-below}
 use Rattle.table.specs.Lists.{lists}
 use Rattle.text.specs.Loads.{Loads}
 use Rattle.text.specs.declared.Loaded.{Loaded}
@@ -39,7 +37,7 @@ written-fits w l l′ n room wrote = let same : length l′ ≡ length l = ap le
 -- A number up to 399 has at most three digits, so that the line of a refusal has room.
 digits : (n : ℕ) → n ≤ 399 → length (decimal n) ≤ 3
 unfolding decimal
-digits n h = leb-true _ _ (every-at 400 (λ k. leb (length (decimal k)) 3) refl n (omega arith))
+digits n h = digits-below 400 3 n refl (omega arith)
 
 pub pair-room : (word l : List ℕ) (a b : ℕ) → length word ≤ 2 → a ≤ 399 → b ≤ 399 → 6280 ≤ length l → Room l 0 (pairText word a b)
 unfolding pairText line

@@ -6,6 +6,7 @@
 #![forbid(unsafe_code)]
 
 mod closed;
+mod forest;
 mod qualifiers;
 mod report;
 mod solver;

@@ -1,5 +1,6 @@
 //! Classes of qualifiers, each with its constant and its bound.
 
+use super::forest::root;
 use second::qualifier::{FIRST_VARIABLE_CODE, GREATEST_CODE};
 use second::Table;
 
@@ -114,18 +115,9 @@ impl Qualifiers {
         self.broken |= constant != NONE && meet(constant, bound) != constant;
     }
 
-    /// The root above a node, with path halving.
+    /// The root above a node.
     fn find(&mut self, node: Node) -> usize {
-        let mut node = usize::from(node);
-        loop {
-            let above = usize::from(self.parent[node]);
-            let next = self.parent[above];
-            if usize::from(next) == above {
-                return above;
-            }
-            self.parent[node] = next;
-            node = usize::from(next);
-        }
+        root(&mut self.parent, node)
     }
 }
 

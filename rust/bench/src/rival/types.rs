@@ -1,5 +1,6 @@
 //! Types as numbered nodes that are made one by unification.
 
+use super::forest::root;
 use super::qualifiers;
 use second::Table;
 
@@ -96,18 +97,9 @@ impl Types {
         node
     }
 
-    /// The root above a node, with path halving.
+    /// The root above a node.
     pub fn find(&mut self, node: Node) -> usize {
-        let mut node = usize::from(node);
-        loop {
-            let above = usize::from(self.parent[node]);
-            let next = self.parent[above];
-            if usize::from(next) == above {
-                return above;
-            }
-            self.parent[node] = next;
-            node = usize::from(next);
-        }
+        root(&mut self.parent, node)
     }
 
     /// What a root stands for.
