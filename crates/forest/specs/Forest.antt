@@ -32,3 +32,9 @@ pub record Found (p : List ℕ) (x r : ℕ) : Type 0 where
 pub record Rooted (p p′ : List ℕ) (x r : ℕ) : Type 0 where
   pub found : Found p x r
   pub shorter : p′ ≡ set p x r
+
+-- A node x was put under the root above y.
+pub record Hung (p p′ : List ℕ) (x y : ℕ) : Type 0 where
+  pub root : ℕ
+  pub found : Found p y root
+  pub under : p′ ≡ set p x root

@@ -12,3 +12,8 @@ pub record Pairs (left right : List ℕ) (n : ℕ) : Type 0 where
   pub fits : n ≤ 704
   pub left-node : (i : ℕ) → i < n → getD left i 0 < 327
   pub right-node : (i : ℕ) → i < n → getD right i 0 < 327
+
+-- Both nodes of each pair are below m.
+pub record PairsBelow (m : ℕ) (left right : List ℕ) (n : ℕ) : Type 0 where
+  pub left-below : (i : ℕ) → i < n → getD left i 0 < m
+  pub right-below : (i : ℕ) → i < n → getD right i 0 < m

@@ -2,7 +2,7 @@
 ghost use mathlib.Core.Path.{_≡_};
 ghost use Prim.Native.Nat.{ℕ, _<_, _≤_};
 ghost use lib.ListN.{set};
-ghost use Rattle.forest.specs.Forest.{Forest, Found, Rooted};
+ghost use Rattle.forest.specs.Forest.{Forest, Found, Rooted, Hung};
 
 // The root above a node. Two links at a time: a node directly under its root ends as fast as a root does.
 pub fn find(parent: &[u16; 327], node: usize) -> usize
@@ -36,4 +36,13 @@ pub fn root(parent: &mut [u16; 327], node: usize) -> usize
     let r = find(parent, node);
     put_under(parent, node, r);
     r
+}
+
+// Puts a node under the root above another.
+pub fn put_under_root(parent: &mut [u16; 327], x: usize, y: usize)
+    requires { ⌜ Forest (now parent) ⌝ ∗ ⌜ (x < 327) × (y < 327) ⌝ }
+    ensures { λ _. ⌜ Hung (now (parent .entry)) (now (parent .exit)) x y ⌝ }
+{
+    let r = find(parent, y);
+    put_under(parent, x, r);
 }

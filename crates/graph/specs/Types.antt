@@ -77,6 +77,11 @@ pub record Joined (kids p k left right p′ k′ left′ right′ : List ℕ) (n
 abbrev pub Clashes : List ℕ → List ℕ → List ℕ → ((ℕ → Ty ℕ) → (ℕ → ℕ) → Type 0) → Type 0
 Clashes kids p k E = (t : ℕ → Ty ℕ) (v : ℕ → ℕ) → Reads p k kids t v → E t v → ⊥
 
+-- The types are as they were: what reads them now, with one qualifier for all, read them before.
+pub record Intact (kids p k p′ k′ : List ℕ) : Type 0 where
+  pub classes : TypeClasses p′ k′
+  pub outof : (t : ℕ → Ty ℕ) → Reads p′ k′ kids t (λ x. 0) → Reads p k kids t (λ x. 0)
+
 -- The equations: two nodes have one type; a node is INT; a node is the arrow of descriptor d.
 abbrev pub Same : ℕ → ℕ → (ℕ → Ty ℕ) → (ℕ → ℕ) → Type 0
 Same a b t v = t a ≡ t b

@@ -14,7 +14,7 @@ use Rattle.graph.specs.Search.{Finite, under, leaf, node}
 use Rattle.occurs.specs.Marks.{size}
 
 -- By which of two numbers is less.
-by-less : {P : Type 0} (x y : ℕ) → (x < y → P) → (y ≤ x → P) → P
+pub by-less : {P : Type 0} (x y : ℕ) → (x < y → P) → (y ≤ x → P) → P
 by-less {P} x y less other = go (decLt x y)
   where
     go : Dec (x < y) → P

@@ -13,9 +13,10 @@ use Rattle.forest.specs.Forest.{up, Reach, here, further, Found}
 use Rattle.forest.proofs.Links.{by-eq}
 use Rattle.graph.specs.Types.{kindAt, argument, result, TypeClasses, Reads}
 use Rattle.graph.specs.Search.{Finite, under, leaf, node, Searched}
+use Rattle.graph.specs.Unused.{Unused}
 use Rattle.occurs.specs.Marks.{markAt, unseen, size, Way, Kept, Walked, Between}
 use Rattle.graph.proofs.Tally.{tally-less}
-use Rattle.occurs.proofs.Readings.{TypePart, reads-root, smaller-part}
+use Rattle.occurs.proofs.Readings.{by-less, TypePart, reads-root, smaller-part}
 use Rattle.occurs.proofs.Marks.{kept-none, marked-finite}
 
 true-false : true ≡ false → ⊥
@@ -146,8 +147,13 @@ module _ {p k kids : List ℕ} where
         by-eq (up p x) x (λ root. node h root many f g) (λ inner. absurd (omega (arith, classes .bare x h inner))) in
         walked finite (marked-finite m m x h finite (between .sound) (λ y l d e. refl))
 
-  pub searched : ((x : ℕ) → x < 327 → Finite p k kids x) → Searched p k kids true
-  searched all = record { finite = λ _. all; none = λ e. absurd (true-false e) }
+  -- The nodes below n are finite; those from n on are unused, so that each is a root and no arrow.
+  pub searched : {n : ℕ} → Unused n p k kids → ((x : ℕ) → x < n → Finite p k kids x) → Searched p k kids true
+  searched {n} unused below =
+      record {
+        finite = λ _ x h. by-less x n (below x) (λ from. leaf h (unused .own x from h) (omega (arith, unused .unknown x from h)));
+        none = λ e. absurd (true-false e);
+      }
 
   pub searched-none : ((t : ℕ → Ty ℕ) (v : ℕ → ℕ) → Reads p k kids t v → ⊥) → Searched p k kids false
   searched-none none = record { finite = λ e. absurd (true-false (sym e)); none = λ _. none }

@@ -1,7 +1,8 @@
 // The occurs check: whether every type is finite; and the kinds read off at the end.
-ghost use Prim.Native.Nat.{_<_};
+ghost use Prim.Native.Nat.{_<_, _≤_};
 ghost use Rattle.graph.specs.Types.{Parts, TypeClasses};
 ghost use Rattle.graph.specs.Search.{Searched};
+ghost use Rattle.graph.specs.Unused.{Unused};
 ghost use Rattle.occurs.specs.Kinds.{Settled, NoneIf};
 ghost use Rattle.occurs.specs.Marks.{Way, Walked, Between};
 
@@ -101,14 +102,14 @@ fn finite_next(
     finite_type(up, kind, kids, marks, node)
 }
 
-// Whether every node's type is finite.
-pub fn all_finite(up: &[u16; 327], kind: &[u16; 327], kids: &[u16; 1280]) -> bool
-    requires { ⌜ TypeClasses (now up) (now kind) ⌝ ∗ ⌜ Parts (now kids) ⌝ }
+// Whether every node's type is finite, where the nodes from `count` on are unused.
+pub fn all_finite(up: &[u16; 327], kind: &[u16; 327], kids: &[u16; 1280], count: usize) -> bool
+    requires { ⌜ TypeClasses (now up) (now kind) ⌝ ∗ ⌜ Parts (now kids) ⌝ ∗ ⌜ (count ≤ 327) × Unused count (now up) (now kind) (now kids) ⌝ }
     ensures { λ r. ⌜ Searched (now (up .entry)) (now (kind .entry)) (now (kids .entry)) r ⌝ }
 {
     let mut marks = [UNSEEN; 327];
     let mut node: usize = 0;
-    while node < 327 {
+    while node < count {
         if !finite_next(up, kind, kids, &mut marks, node) {
             return false;
         }

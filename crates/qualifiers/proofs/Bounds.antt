@@ -10,9 +10,9 @@ use Rattle.scheme.specs.Order.{atOrBelow}
 use Rattle.scheme.specs.Meet.{meetOf}
 use Rattle.scheme.proofs.Order.{reflexive, below-code, below-below}
 use Rattle.scheme.proofs.Meets.{meet-code, meet-left, meet-right, meet-greatest}
-use Rattle.forest.specs.Forest.{up, Reach, here, further, Found}
+use Rattle.forest.specs.Forest.{up, Forest, Reach, here, further, Found}
 use Rattle.forest.proofs.Links.{by-eq, reach-same, up-same, up-other, forest-set}
-use Rattle.qualifiers.specs.Classes.{boundAt, Classes, Bounded, Restricted, Tested}
+use Rattle.qualifiers.specs.Classes.{boundAt, Classes, Bounded, Untouched, Restricted, Tested}
 
 -- The bound of the root r was met with m, and no other changed.
 pub record Lowered (p b b′ : List ℕ) (r m : ℕ) : Type 0 where
@@ -89,6 +89,13 @@ module _ {p b : List ℕ} (k : Classes p b) where
     pub lowered : up p r ≡ r → Lowered p b (set b r (meetOf (boundAt b r) m)) r m
     lowered root = record { classes = lower-keeps root; fits = cc (lower-at, lower-right); off = lower-off; into = lower-into; outof = lower-outof }
 
+-- Changes below n leave the nodes from n on untouched.
+pub put-under-stays : {p b : List ℕ} {n : ℕ} → Forest p → (x a : ℕ) → x < 327 → x < n → Untouched n p b → Untouched n (set p x a) b
+put-under-stays f x a node below u = record { own = λ z from h. up-other f x a node z (λ e. omega arith) ∙ u .own z from h; unbound = u .unbound }
+
+pub lowered-stays : {p b b′ : List ℕ} {r m n : ℕ} → Lowered p b b′ r m → r < n → Untouched n p b → Untouched n p b′
+lowered-stays l below u = record { own = u .own; unbound = λ z from h. l .off z (λ e. omega arith) ∙ u .unbound z from h }
+
 -- A node's class was restricted at its root.
 pub restricted : {p b : List ℕ} → Classes p b → (x r most : ℕ) → x < 327 → most < 7 → Found p x r → Restricted p b (set b r (meetOf (boundAt b r) most)) x most
 restricted k x r most node code found =
@@ -97,6 +104,7 @@ restricted k x r most node code found =
       classes = l .classes;
       into = λ v linked bounded fits. l .into v bounded (cc (reach-same v linked (found .reached)));
       outof = λ v linked bounded. let out = l .outof v bounded in (out .0, cc (out .1, reach-same v linked (found .reached)));
+      stays = λ m below. lowered-stays l (omega (arith, found .low));
     }
 
 -- Each constant was tested, or one is not at or below its bound.

@@ -1,4 +1,4 @@
--- What the exits of `root`, `join`, `unite` and `unite_all` leave.
+-- What the exits of `root`, `join`, `unite` and `unite_all` leave, and what a row leaves that puts its new node under another.
 use Prim.Native.Nat.{ℕ, _<_, _≤_, _+_}
 use native.Mathlib.Omega.{arith}
 use borrow.Author.Count.{below-none, below-more}
@@ -11,10 +11,11 @@ use lib.Seq.{set-getD}
 use Rattle.scheme.specs.Meet.{meetOf}
 use Rattle.scheme.proofs.Order.{rand-greatest}
 use Rattle.scheme.proofs.Meets.{meet-is-left}
-use Rattle.forest.specs.Forest.{up, Forest, Linked, Reach, here, further, Found, Rooted}
-use Rattle.forest.proofs.Links.{by-eq, up-same, up-other, linked-into, linked-outof, linked-joins, shorter-into, shorter-outof}
-use Rattle.qualifiers.specs.Classes.{boundAt, Classes, Roots, United, UnitedAll}
-use Rattle.qualifiers.proofs.Bounds.{sinks-along, put-under-keeps, lowered}
+use Rattle.forest.specs.Forest.{up, Forest, Linked, Reach, here, further, Found, Rooted, Hung}
+use Rattle.forest.specs.Pairs.{PairsBelow}
+use Rattle.forest.proofs.Links.{by-eq, up-same, up-other, linked-into, linked-outof, linked-joins, reach-same, shorter-into, shorter-outof}
+use Rattle.qualifiers.specs.Classes.{boundAt, Classes, Untouched, Roots, United, UnitedAll}
+use Rattle.qualifiers.proofs.Bounds.{sinks-along, put-under-keeps, put-under-stays, lowered, lowered-stays}
 
 -- From a root no other node is reached.
 root-reaches : {p : List ℕ} {x r : ℕ} → up p x ≡ x → Reach p x r → r ≡ x
@@ -59,6 +60,7 @@ module _ {p b : List ℕ} (k : Classes p b) (low high : ℕ) (roots : Roots p lo
         bounds-into = λ e. absurd (false≢true e);
         bounds-outof = λ e. absurd (false≢true e);
         clash = λ _ v own linked e. omega (arith, own low (omega (arith, roots .less)), own high constant, roots .less);
+        stays = λ m _ _ u. u;
       }
 
   pub joined : 7 ≤ high → United p b (set p high low) (set b low (meetOf (boundAt b low) (boundAt b high))) low high true
@@ -76,6 +78,7 @@ module _ {p b : List ℕ} (k : Classes p b) (low high : ℕ) (roots : Roots p lo
         bounds-into = λ _ v linked bounded. l .into v bounded (cc (bounded high (roots .node), joins v linked));
         bounds-outof = λ _ v linked bounded. l .outof v bounded .0;
         clash = λ e. absurd (true≢false e);
+        stays = λ m low-below high-below u. put-under-stays (k .forest) high low (roots .node) high-below (lowered-stays l low-below u);
       }
 
   -- RAND bounds nothing, so the smaller root keeps its bound.
@@ -95,6 +98,7 @@ united-turned u =
       bounds-into = u .bounds-into;
       bounds-outof = u .bounds-outof;
       clash = λ two v own linked e. u .clash two v own linked (sym e);
+      stays = λ m x-below y-below. u .stays m y-below x-below;
     }
 
 -- Both nodes were put under their roots, which the readings do not tell from them.
@@ -113,6 +117,9 @@ module _ {p p₁ p₂ b : List ℕ} {x y a c : ℕ} (asked : Classes p b × ((x 
 
   outof-both : (v : ℕ → ℕ) → Linked p₂ v → Linked p v
   outof-both v linked = first .outof v (second .outof v linked)
+
+  stays-both : {m : ℕ} → Untouched m p b → Untouched m p₂ b
+  stays-both u = record { own = λ z from h. second .roots z (first .roots z (u .own z from h)); unbound = u .unbound }
 
   same-x : (v : ℕ → ℕ) → Linked p₂ v → v x ≡ v a
   same-x v linked = second .outof v linked x (asked .1 .0) ∙ ap v (first .under)
@@ -138,6 +145,7 @@ module _ {p p₁ p₂ b : List ℕ} {x y a c : ℕ} (asked : Classes p b × ((x 
         bounds-into = λ _ v linked bounded. bounded;
         bounds-outof = λ _ v linked bounded. bounded;
         clash = λ e. absurd (true≢false e);
+        stays = λ m _ _. stays-both;
       }
 
   pub united-roots : {p′ b′ : List ℕ} {r : Bool} → United p₂ b p′ b′ a c r → United p b p′ b′ x y r
@@ -152,7 +160,32 @@ module _ {p p₁ p₂ b : List ℕ} {x y a c : ℕ} (asked : Classes p b × ((x 
         bounds-into = u .bounds-into;
         bounds-outof = u .bounds-outof;
         clash = λ two v own linked e. let after = into-both v linked in u .clash two v own after (up-to v after e);
+        stays = λ m x-below y-below untouched. u .stays m (omega (arith, first .low)) (omega (arith, second .low)) (stays-both untouched);
       }
+
+-- A node made one with another's root is made one with the other.
+united-below : {p b p′ b′ : List ℕ} {x y r : ℕ} → Found p y r → United p b p′ b′ x r true → United p b p′ b′ x y true
+united-below found u =
+    record {
+      classes = u .classes;
+      into = λ done v linked e. u .into done v linked (e ∙ reach-same v linked (found .reached));
+      outof = λ done v linked. let out = u .outof done v linked in (out .0, out .1 ∙ sym (reach-same v (out .0) (found .reached)));
+      bounds-into = u .bounds-into;
+      bounds-outof = u .bounds-outof;
+      clash = λ e. absurd (true≢false e);
+      stays = λ m x-below y-below. u .stays m x-below (omega (arith, found .low));
+    }
+
+-- A new node, which nothing bounds, was put under the root above a smaller one.
+pub new-alike : {p p′ b : List ℕ} {x y : ℕ} → Classes p b → 7 ≤ x → x < 327 → up p x ≡ x → boundAt b x ≡ 6 → y < x → Hung p p′ x y → United p b p′ b x y true
+new-alike {p} {b = b} {x} {y} k free node root unbound less hung =
+    let roots : Roots p (hung .root) x =
+    record { less = omega (arith, hung .found .low); node = node; low-root = hung .found .root; high-root = root } in
+    subst (λ (l : List ℕ). United p b l b x y true) (sym (hung .under)) (united-below (hung .found) (united-turned (joined-rand k (hung .root) x roots free unbound)))
+
+-- Fewer nodes are untouched.
+pub untouched-more : {p b : List ℕ} {m n : ℕ} → m ≤ n → Untouched m p b → Untouched n p b
+untouched-more more u = record { own = λ z from. u .own z (omega arith); unbound = λ z from. u .unbound z (omega arith) }
 
 -- No pair, one pair more, and a pair that clashes.
 pub all-none : {p b left right : List ℕ} → Classes p b → UnitedAll p b p b left right 0 true
@@ -164,9 +197,17 @@ all-none {left} {right} k =
       bounds-into = λ _ v linked bounded. bounded;
       bounds-outof = λ _ v linked bounded. bounded;
       clash = λ e. absurd (true≢false e);
+      stays = λ m _ u. u;
     }
 
 module _ {p b p₁ b₁ p₂ b₂ left right : List ℕ} {i : ℕ} {r : Bool} (all : UnitedAll p b p₁ b₁ left right i true) (u : United p₁ b₁ p₂ b₂ (getD left i 0) (getD right i 0) r) where
+  -- The pairs before i lie below m, and so does pair i.
+  stays-on : {n : ℕ} → i < n → (m : ℕ) → PairsBelow m left right n → Untouched m p b → Untouched m p₂ b₂
+  stays-on less m below untouched =
+      let before : PairsBelow m left right i =
+      record { left-below = λ j h. below .left-below j (omega arith); right-below = λ j h. below .right-below j (omega arith) } in
+      u .stays m (below .left-below i less) (below .right-below i less) (all .stays m before untouched)
+
   pub all-more : r ≡ true → UnitedAll p b p₂ b₂ left right (i + 1) true
   all-more done =
       record {
@@ -179,6 +220,7 @@ module _ {p b p₁ b₁ p₂ b₂ left right : List ℕ} {i : ℕ} {r : Bool} (a
         bounds-into = λ _ v linked bounded. u .bounds-into done v linked (all .bounds-into refl v (u .outof done v linked .0) bounded);
         bounds-outof = λ _ v linked bounded. all .bounds-outof refl v (u .outof done v linked .0) (u .bounds-outof done v linked bounded);
         clash = λ e. absurd (true≢false e);
+        stays = stays-on (omega arith);
       }
 
   pub all-clash : {n : ℕ} → i < n → r ≡ false → UnitedAll p b p₂ b₂ left right n false
@@ -190,4 +232,5 @@ module _ {p b p₁ b₁ p₂ b₂ left right : List ℕ} {i : ℕ} {r : Bool} (a
         bounds-into = λ e. absurd (false≢true e);
         bounds-outof = λ e. absurd (false≢true e);
         clash = λ _ v own linked alike. u .clash two v own (all .into refl v linked (λ j h. alike j (omega arith))) (alike i less);
+        stays = stays-on less;
       }

@@ -7,7 +7,7 @@ use mathlib.Core.Path.{_≡_}
 use lib.ListN.{length, getD}
 use Rattle.scheme.specs.Order.{atOrBelow}
 use Rattle.forest.specs.Forest.{up, Forest, Linked}
-use Rattle.forest.specs.Pairs.{Alike}
+use Rattle.forest.specs.Pairs.{Alike, PairsBelow}
 
 -- The bound of a node: the greatest code that the operations asked of its class allow.
 abbrev pub boundAt : List ℕ → ℕ → ℕ
@@ -28,6 +28,11 @@ Constant v = (c : ℕ) → c < 7 → v c ≡ c
 abbrev pub Bounded : List ℕ → (ℕ → ℕ) → Type 0
 Bounded b v = (x : ℕ) → x < 327 → atOrBelow (v x) (boundAt b x) ≡ true
 
+-- Nodes that no row has touched yet: from m on each is a root of its own, with the bound that bounds nothing.
+pub record Untouched (m : ℕ) (p b : List ℕ) : Type 0 where
+  pub own : (x : ℕ) → m ≤ x → x < 327 → up p x ≡ x
+  pub unbound : (x : ℕ) → m ≤ x → x < 327 → boundAt b x ≡ 6
+
 -- Two roots, the smaller first.
 pub record Roots (p : List ℕ) (low high : ℕ) : Type 0 where
   pub less : low < high
@@ -43,6 +48,7 @@ pub record United (p b p′ b′ : List ℕ) (x y : ℕ) (r : Bool) : Type 0 whe
   pub bounds-into : r ≡ true → (v : ℕ → ℕ) → Linked p′ v → Bounded b v → Bounded b′ v
   pub bounds-outof : r ≡ true → (v : ℕ → ℕ) → Linked p′ v → Bounded b′ v → Bounded b v
   pub clash : r ≡ false → (v : ℕ → ℕ) → Constant v → Linked p v → v x ≡ v y → ⊥
+  pub stays : (m : ℕ) → x < m → y < m → Untouched m p b → Untouched m p′ b′
 
 -- The same of all the pairs, one after the other.
 pub record UnitedAll (p b p′ b′ left right : List ℕ) (n : ℕ) (r : Bool) : Type 0 where
@@ -52,12 +58,14 @@ pub record UnitedAll (p b p′ b′ left right : List ℕ) (n : ℕ) (r : Bool) 
   pub bounds-into : r ≡ true → (v : ℕ → ℕ) → Linked p′ v → Bounded b v → Bounded b′ v
   pub bounds-outof : r ≡ true → (v : ℕ → ℕ) → Linked p′ v → Bounded b′ v → Bounded b v
   pub clash : r ≡ false → (v : ℕ → ℕ) → Constant v → Linked p v → Alike left right n v → ⊥
+  pub stays : (m : ℕ) → PairsBelow m left right n → Untouched m p b → Untouched m p′ b′
 
 -- A node's class may be at most `most`.
 pub record Restricted (p b b′ : List ℕ) (x most : ℕ) : Type 0 where
   pub classes : Classes p b′
   pub into : (v : ℕ → ℕ) → Linked p v → Bounded b v → atOrBelow (v x) most ≡ true → Bounded b′ v
   pub outof : (v : ℕ → ℕ) → Linked p v → Bounded b′ v → Bounded b v × (atOrBelow (v x) most ≡ true)
+  pub stays : (m : ℕ) → x < m → Untouched m p b → Untouched m p b′
 
 -- Every constant is at or below its bound, or no reading is within the bounds.
 pub record Tested (b : List ℕ) (r : Bool) : Type 0 where

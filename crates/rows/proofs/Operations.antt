@@ -1,54 +1,153 @@
--- The equations of an OP row, exit by exit.
-use Prim.Native.Nat.{ℕ, _+_, _<_, _≤_}
+-- An OP row, exit by exit.
+use Prim.Native.Nat.{ℕ, _+_, _<_}
 use native.Mathlib.Omega.{arith}
 use mathlib.Core.Bool.{Bool, true, false, cond}
 use mathlib.Core.List.{List}
-use mathlib.Core.Path.{_≡_, sym, ap, _∙_}
-use Rattle.scheme.specs.Operation.{keeps, resultOf}
+use mathlib.Core.Path.{_≡_, refl, sym, ap, subst, _∙_}
+use lib.ListN.{set}
+use Rattle.scheme.specs.Order.{atOrBelow}
+use Rattle.scheme.specs.Operation.{keeps, resultOf, highestOf}
 use Rattle.model.specs.Typing.{Ty, int}
-use Rattle.graph.specs.Types.{TypeClasses, Room, Joined, Clashes, IsInt}
-use Rattle.unification.specs.Answers.{Answered}
-use Rattle.unification.specs.declared.Joining.{Joining}
-use Rattle.unification.specs.Noted.{Noted}
-use Rattle.rows.specs.Steps.{OpHolds}
-use Rattle.rows.proofs.Joining.{joined-then}
-use Rattle.rows.proofs.Rows.{SameQualifier, no-pairs, noted-joined, then-clash, then-answered, result-node}
+use Rattle.model.specs.declared.Term.the-variants.{Op}
+use Rattle.forest.specs.Forest.{Hung}
+use Rattle.graph.specs.Types.{TypeClasses, Clashes, Intact, IsInt}
+use Rattle.graph.specs.Unused.{Unused}
+use Rattle.qualifiers.specs.Classes.{Classes, Constant, Bounded, United, Restricted, Tested, Untouched}
+use Rattle.qualifiers.proofs.Uniting.{new-alike, untouched-more}
+use Rattle.readings.specs.Nodes.{RowHolds, RowFits}
+use Rattle.unification.specs.Merging.{Always, Reduced, MadeInt}
+use Rattle.unification.proofs.Merging.{clashes-after, intact-after}
+use Rattle.unification.proofs.Unused.{unused-kind, unused-more}
+use Rattle.unification.proofs.Fresh.{new-int}
+use Rattle.rows.specs.Steps.{Extended, Ready, Stepped}
+use Rattle.rows.specs.declared.Verdict.the-variants.{Fine, Shapes, Apart, Broken}
+use Rattle.rows.proofs.Steps.{Taken, taken-beside, Equated, equated-one, equated-then, extended, extended-below, parted}
 
--- The result's node is a node.
-pub result-below : (o l r : ℕ) → l < 327 → r ≡ resultOf o l → r < 327
+-- The result's node has what the rule says of the result.
+result-node : (o l : ℕ) (v : ℕ → ℕ) → v (resultOf o l) ≡ cond (keeps o) (v l) (v 0)
 unfolding resultOf
-result-below o l r h e = rw e (go (keeps o))
+result-node o l v = go (keeps o)
   where
-    go : (b : Bool) → cond b l 0 < 327
+    go : (b : Bool) → v (cond b l 0) ≡ cond b (v l) (v 0)
+    go true = refl
+    go false = refl
+
+-- The result's node is PLAIN's or the operands'.
+pub result-below : (o l r n : ℕ) → l < n → r ≡ resultOf o l → r < n
+unfolding resultOf
+result-below o l r n h e = rw e (go (keeps o))
+  where
+    go : (b : Bool) → cond b l 0 < n
     go true = h
     go false = omega arith
 
--- The two pairs that are noted first.
-abbrev Noting : ℕ → ℕ → ℕ → ℕ → (ℕ → Ty ℕ) → (ℕ → ℕ) → Type 0
-Noting i l r result t v = SameQualifier (r + 71) (l + 71) t v × SameQualifier (i + 71) result t v
+-- One equation of types after the other.
+reduced-beside : {kids u k u₁ k₁ u₂ k₂ : List ℕ} {E F : (ℕ → Ty ℕ) → (ℕ → ℕ) → Type 0} → Reduced kids u k u₁ k₁ E Always → Reduced kids u₁ k₁ u₂ k₂ F Always →
+    Reduced kids u k u₂ k₂ (λ t v. E t v × F t v) Always
+reduced-beside one two =
+    record {
+      classes = two .classes;
+      fewer = omega (arith, one .fewer, two .fewer);
+      into = λ t v reads e. two .into t v (one .into t v reads (e .0) .0) (e .1);
+      outof = λ t v reads _. let last = two .outof t v reads tt in let first = one .outof t v (last .0) tt in (first .0, (first .1, last .1));
+    }
 
-module _ {u k left right left₁ right₁ left₂ right₂ : List ℕ} {result n₁ n₂ : ℕ} (kids : List ℕ) (i o l r : ℕ) (classes : TypeClasses u k)
-    (stands : (i < 256) × (l < i) × (r < i)) (is-result : result ≡ resultOf o (l + 71))
-    (one : Noted left right left₁ right₁ 0 (r + 71) (l + 71) n₁) (two : Noted left₁ right₁ left₂ right₂ n₁ (i + 71) result n₂) where
-  pub noted-both : Joined kids u k left right u k left₂ right₂ 0 n₂ (Noting i l r result)
-  noted-both =
-      let first = noted-joined {kids = kids} classes (no-pairs u left right) (omega arith) (omega arith) (omega arith) one in
-      joined-then first (noted-joined classes (first .room) (omega (arith, one .next)) (omega arith) (result-below o (l + 71) result (omega arith) is-result) two)
+module _ {i l r : ℕ} {u k p b : List ℕ} (o : ℕ) (stands : (i < 256) × (l < i) × (r < i)) (types : TypeClasses u k) (classes : Classes p b) where
+  abbrev Holds : (ℕ → Ty ℕ) → (ℕ → ℕ) → Type 0
+  Holds = RowHolds i (Op o l r) 0 0
 
-  -- What the row's equations are, in the order of the code.
-  first-there : (t : ℕ → Ty ℕ) (v : ℕ → ℕ) → OpHolds i o l r t v → Noting i l r result t v × IsInt (l + 64) t v
-  first-there t v h = ((h .2, h .3 ∙ sym (result-node o (l + 71) v) ∙ ap v (sym is-result)), h .0)
+  abbrev Fits : (ℕ → ℕ) → Type 0
+  Fits = RowFits (Op o l r)
 
-  pub first-clash : Clashes kids u k (IsInt (l + 64)) → Clashes kids u k (OpHolds i o l r)
-  first-clash = then-clash noted-both first-there
+  module _ {u₁ k₁ : List ℕ} {one : Bool} (first : MadeInt u k u₁ k₁ (l + 64) one) where
+    unused-first : {n : ℕ} (kids : List ℕ) → i + 64 ≡ n → Unused n u k kids → Unused n u₁ k₁ kids
+    unused-first {n} kids e = first .stays n kids (omega arith) (omega arith)
 
-  module _ {u₃ k₃ left₃ right₃ : List ℕ} {n₃ : ℕ} (third : Joined kids u k left₂ right₂ u₃ k₃ left₃ right₃ n₂ n₃ (IsInt (l + 64))) where
-    pub second-clash : Clashes kids u₃ k₃ (IsInt (r + 64)) → Clashes kids u k (OpHolds i o l r)
-    second-clash = then-clash (joined-then noted-both third) (λ t v h. (first-there t v h, h .1))
+    -- The left operand is an arrow.
+    pub left-clash : one ≡ false → (kids : List ℕ) → Ready i kids u k p b → Stepped i kids u k p b u₁ k₁ p b Holds Fits Shapes
+    left-clash clashed kids ready =
+        let clash = first .clash clashed kids in
+        (λ t v reads e. clash .0 t v reads (e .0), clash .1, unused-more (unused-first kids refl (ready .types)) (omega arith))
 
-    module _ {u₄ k₄ left₄ right₄ : List ℕ} {n₄ : ℕ} (fourth : Joined kids u₃ k₃ left₃ right₃ u₄ k₄ left₄ right₄ n₃ n₄ (IsInt (r + 64))) where
-      pub all-made : (u₅ k₅ left₅ right₅ : List ℕ) (a : Joining) → Answered kids u₄ k₄ left₄ right₄ u₅ k₅ left₅ right₅ n₄ (IsInt (i + 64)) a →
-          Answered kids u k left right u₅ k₅ left₅ right₅ 0 (OpHolds i o l r) a
-      all-made =
-          then-answered (joined-then (joined-then noted-both third) fourth) (λ t v h. ((first-there t v h, h .1), h .4))
-          (λ t v e. (e .0 .0 .1, e .0 .1, e .0 .0 .0 .0, e .0 .0 .0 .1 ∙ ap v is-result ∙ result-node o (l + 71) v, e .1))
+    module _ (made : one ≡ true) where
+      pub left-classes : TypeClasses u₁ k₁
+      left-classes = first .made made u .classes
+
+      module _ {u₂ k₂ : List ℕ} {two : Bool} (second : MadeInt u₁ k₁ u₂ k₂ (r + 64) two) where
+        unused-second : (kids : List ℕ) → Unused (i + 64) u k kids → Unused (i + 64) u₂ k₂ kids
+        unused-second kids unused = second .stays (i + 64) kids (omega arith) (omega arith) (unused-first kids refl unused)
+
+        -- The right operand is an arrow.
+        pub right-clash : two ≡ false → (kids : List ℕ) → Ready i kids u k p b → Stepped i kids u k p b u₂ k₂ p b Holds Fits Shapes
+        right-clash clashed kids ready =
+            let before = first .made made kids in
+            let clash = second .clash clashed kids in (
+              λ t v reads e. clash .0 t v (before .into t v reads (e .0) .0) (e .1),
+              intact-after (λ t reads. before .outof t (λ x. 0) reads tt .0) (clash .1),
+              unused-more (unused-second kids (ready .types)) (omega arith),
+            )
+
+        module _ (both : two ≡ true) where
+          pub right-classes : TypeClasses u₂ k₂
+          right-classes = second .made both u .classes
+
+          abbrev k₃ : List ℕ
+          k₃ = set k₂ (i + 64) 1
+
+          -- The three types are INT.
+          all-int : (kids : List ℕ) → Unused (i + 64) u k kids → Reduced kids u k u₂ k₃ (λ t v. ((t (l + 64) ≡ int) × (t (r + 64) ≡ int)) × (t (i + 64) ≡ int)) Always
+          all-int kids unused =
+              let after = unused-second kids unused in
+              reduced-beside (reduced-beside (first .made made kids) (second .made both kids))
+              (new-int right-classes (omega arith) (after .own (i + 64) (omega arith) (omega arith)) (after .unknown (i + 64) (omega arith) (omega arith)))
+
+          unused-after : (kids : List ℕ) → Unused (i + 64) u k kids → Unused (i + 1 + 64) u₂ k₃ kids
+          unused-after kids unused =
+              unused-kind (unused-more (unused-second kids unused) (omega arith)) (i + 64) 1 (omega arith) (omega arith) (right-classes .size) (λ h. absurd (omega arith))
+
+          -- The qualifiers that the row asks for.
+          abbrev Alikes : ℕ → (ℕ → ℕ) → Type 0
+          Alikes result v = (v (r + 71) ≡ v (l + 71)) × (v (i + 71) ≡ v result)
+
+          taken : (kids : List ℕ) (result : ℕ) → result ≡ resultOf o (l + 71) → Unused (i + 64) u k kids → Taken kids u k u₂ k₃ Holds (Alikes result)
+          taken kids result is unused =
+              taken-beside (all-int kids unused)
+              (λ t v e. (((e .0, e .1), e .4), (e .2, e .3 ∙ sym (result-node o (l + 71) v) ∙ ap v (sym is))))
+              (λ t v f q. (f .0 .0, f .0 .1, q .0, q .1 ∙ ap v is ∙ result-node o (l + 71) v, f .1))
+
+          module _ {p₁ b₁ : List ℕ} {three : Bool} (united : United p b p₁ b₁ (r + 71) (l + 71) three) where
+            -- The operands have two constants.
+            pub operands-apart : three ≡ false → (kids : List ℕ) → Ready i kids u k p b → Stepped i kids u k p b u₂ k₃ p₁ b₁ Holds Fits Apart
+            operands-apart clashed kids ready = (
+              parted (taken kids (resultOf o (l + 71)) refl (ready .types)) (refl, refl) (λ v constant linked q. united .clash clashed v constant linked (q .0)),
+              unused-after kids (ready .types),
+            )
+
+            module _ {result : ℕ} {p₂ : List ℕ} (is : result ≡ resultOf o (l + 71)) (hung : Hung p₁ p₂ (i + 71) result) (untouched : Untouched (i + 71) p b) where
+              untouched-first : Untouched (i + 71) p₁ b₁
+              untouched-first = united .stays (i + 71) (omega arith) (omega arith) untouched
+
+              pub new-result : United p₁ b₁ p₂ b₁ (i + 71) result true
+              new-result =
+                  new-alike (united .classes) (omega arith) (omega arith) (untouched-first .own (i + 71) (omega arith) (omega arith)) (untouched-first .unbound (i + 71) (omega arith) (omega arith))
+                  (result-below o (l + 71) result (i + 71) (omega arith) is) hung
+
+              module _ (alike : three ≡ true) {most : ℕ} {b₂ : List ℕ} {four : Bool} (limit : most ≡ highestOf o) (restricted : Restricted p₂ b₁ b₂ (l + 71) most) (tested : Tested b₂ four) where
+                op-extended : (kids : List ℕ) → Ready i kids u k p b → Extended kids u k p b u₂ k₃ p₂ b₂ Holds Fits
+                op-extended kids ready =
+                    subst (λ (n : ℕ). Extended kids u k p b u₂ k₃ p₂ b₂ Holds (λ v. atOrBelow (v (l + 71)) n ≡ true)) limit
+                    (extended-below (extended (taken kids result is (ready .types)) (equated-then (equated-one (rw alike at united)) (equated-one new-result))) restricted)
+
+                pub op-fine : four ≡ true → (kids : List ℕ) → Ready i kids u k p b → Stepped i kids u k p b u₂ k₃ p₂ b₂ Holds Fits Fine
+                op-fine fits kids ready = (
+                  op-extended kids ready,
+                  record {
+                    types = unused-after kids (ready .types);
+                    qualifiers = restricted .stays (i + 1 + 71) (omega arith)
+                        (new-result .stays (i + 1 + 71) (omega arith) (result-below o (l + 71) result (i + 1 + 71) (omega arith) is) (untouched-more (omega arith) untouched-first));
+                    within = tested .within fits;
+                  },
+                )
+
+                pub op-broken : four ≡ false → (kids : List ℕ) → Ready i kids u k p b → Stepped i kids u k p b u₂ k₃ p₂ b₂ Holds Fits Broken
+                op-broken over kids ready = (op-extended kids ready, unused-after kids (ready .types), tested .broken over)

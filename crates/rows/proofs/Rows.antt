@@ -1,103 +1,90 @@
--- Each kind of row, as the equations that its code makes hold.
-use Prim.Native.Nat.{ℕ, _+_, _*_, _<_, _≤_}
+-- Rows whose nodes are new: their kind or their parent is stored, and their qualifier put under another.
+use Prim.Native.Nat.{ℕ, _+_, _-_, _<_, _≤_}
 use native.Mathlib.Omega.{arith}
-use mathlib.Core.Bool.{Bool, true, false, cond}
+use mathlib.Core.Bool.{true}
 use mathlib.Core.List.{List}
-use mathlib.Core.Path.{_≡_, refl, sym, ap, subst, _∙_}
-use Rattle.scheme.specs.Operation.{keeps, resultOf}
+use mathlib.Core.Path.{_≡_, sym, subst, _∙_}
+use lib.ListN.{set}
 use Rattle.model.specs.Typing.{Ty, int, arrow}
-use Rattle.model.specs.declared.Term.{Term}
-use Rattle.model.specs.declared.Term.the-variants.{Lam, App, Op, Var, Num, Enc}
-use Rattle.graph.specs.Types.{TypeClasses, Reads, Room, roots, Joined, Clashes, arrowOf, Same, IsInt, IsArrow}
-use Rattle.readings.specs.Nodes.{RowHolds}
-use Rattle.unification.specs.Answers.{Answered}
-use Rattle.unification.specs.declared.Joining.{Joining}
-use Rattle.unification.specs.declared.Joining.the-variants.{Pairs, Clash}
-use Rattle.unification.specs.Noted.{Noted}
-use Rattle.unification.proofs.Noting.{noted-pairs, noted-into, noted-outof}
-use Rattle.unification.proofs.Classes.{roots-most}
+use Rattle.forest.specs.Forest.{Hung}
+use Rattle.graph.specs.Types.{TypeClasses, arrowOf, Same, IsInt, IsArrow}
+use Rattle.graph.specs.Unused.{Within, Unused}
+use Rattle.qualifiers.specs.Classes.{Classes, United}
+use Rattle.qualifiers.proofs.Uniting.{new-alike, untouched-more}
+use Rattle.unification.specs.Merging.{Always, Reduced}
+use Rattle.unification.proofs.Unused.{unused-kind, unused-hung, unused-more}
+use Rattle.unification.proofs.Fresh.{new-int, new-arrow, new-same}
 use Rattle.setup.specs.Descriptors.{HasParts}
-use Rattle.rows.proofs.Joining.{joined-then, joined-as}
-
--- At the start of a row there are no pairs, and room for all that can come.
-pub no-pairs : (u left right : List ℕ) → Room u left right 0
-no-pairs u left right =
-    record {
-      pairs = record { fits = omega arith; left-node = λ i h. absurd (omega arith); right-node = λ i h. absurd (omega arith) };
-      enough = omega (arith, roots-most u);
-    }
-
--- Two qualifiers are to be alike.
-abbrev pub SameQualifier : ℕ → ℕ → (ℕ → Ty ℕ) → (ℕ → ℕ) → Type 0
-SameQualifier x y t v = v x ≡ v y
-
-pub noted-joined : {kids u k left right left′ right′ : List ℕ} {n x y n′ : ℕ} → TypeClasses u k → Room u left right n → n ≤ 48 → x < 327 → y < 327 →
-    Noted left right left′ right′ n x y n′ → Joined kids u k left right u k left′ right′ n n′ (SameQualifier x y)
-noted-joined {u = u} classes room few hx hy noted =
-    record {
-      classes = classes;
-      room = record { pairs = noted-pairs noted (omega arith) hx hy (room .pairs); enough = omega (arith, noted .next, roots-most u) };
-      fewer = omega arith;
-      into = λ t v reads alike e. (reads, noted-into noted v alike e);
-      outof = λ t v reads alike. let out = noted-outof noted v alike in (reads, out .0, out .1);
-    }
-
-module _ {kids u k left right u₁ k₁ left₁ right₁ : List ℕ} {n₁ : ℕ} {E F H : (ℕ → Ty ℕ) → (ℕ → ℕ) → Type 0}
-    (first : Joined kids u k left right u₁ k₁ left₁ right₁ 0 n₁ E) (there : (t : ℕ → Ty ℕ) (v : ℕ → ℕ) → H t v → E t v × F t v) where
-  -- A clash after the first equations is one of them all.
-  pub then-clash : Clashes kids u₁ k₁ F → Clashes kids u k H
-  then-clash none t v reads h =
-      let both = there t v h in
-      none t v (first .into t v reads (λ i below. absurd (omega arith)) (both .0) .0) (both .1)
-
-  pub then-answered : ((t : ℕ → Ty ℕ) (v : ℕ → ℕ) → E t v × F t v → H t v) → (u₂ k₂ left₂ right₂ : List ℕ) (r : Joining) →
-      Answered kids u₁ k₁ left₁ right₁ u₂ k₂ left₂ right₂ n₁ F r → Answered kids u k left right u₂ k₂ left₂ right₂ 0 H r
-  then-answered back u₂ k₂ left₂ right₂ (Pairs n) second = joined-as there back (joined-then first second)
-  then-answered back u₂ k₂ left₂ right₂ Clash none = then-clash none
-
--- The same answer in other words.
-pub answered-as : (kids u k left right u₁ k₁ left₁ right₁ : List ℕ) (n : ℕ) {E F : (ℕ → Ty ℕ) → (ℕ → ℕ) → Type 0} →
-    ((t : ℕ → Ty ℕ) (v : ℕ → ℕ) → F t v → E t v) → ((t : ℕ → Ty ℕ) (v : ℕ → ℕ) → E t v → F t v) → (r : Joining) →
-    Answered kids u k left right u₁ k₁ left₁ right₁ n E r → Answered kids u k left right u₁ k₁ left₁ right₁ n F r
-answered-as kids u k left right u₁ k₁ left₁ right₁ n₀ there back (Pairs n) j = joined-as there back j
-answered-as kids u k left right u₁ k₁ left₁ right₁ n₀ there back Clash none = λ t v reads f. none t v reads (there t v f)
+use Rattle.rows.specs.Steps.{Extended, Ready, Known}
+use Rattle.rows.proofs.Steps.{taken-beside, equated-one, extended, extended-as}
 
 -- The arrow of a descriptor, by its parts.
 pub arrow-parts : {kids : List ℕ} {d aq at rq rt : ℕ} → HasParts kids d aq at rq rt → (t : ℕ → Ty ℕ) (v : ℕ → ℕ) → arrowOf kids t v d ≡ arrow (v aq) (t at) (v rq) (t rt)
 arrow-parts parts t v = cc (parts .argument-qualifier, parts .argument, parts .result-qualifier, parts .result)
 
--- The result's node has what the rule says of the result.
-pub result-node : (o l : ℕ) (v : ℕ → ℕ) → v (resultOf o l) ≡ cond (keeps o) (v l) (v 0)
-unfolding resultOf
-result-node o l v = go (keeps o)
-  where
-    go : (b : Bool) → v (cond b l 0) ≡ cond b (v l) (v 0)
-    go true = refl
-    go false = refl
+-- A descriptor's parts lie where it says.
+pub parts-within : {kids : List ℕ} {n d aq at rq rt : ℕ} → HasParts kids d aq at rq rt → d < n → aq < n + 7 → at < n → rq < n + 7 → rt < n → Within n kids d
+parts-within parts own aq at rq rt =
+    record {
+      own = own;
+      argument-node = rw (parts .argument) at;
+      result-node = rw (parts .result) rt;
+      argument-qualifier = rw (parts .argument-qualifier) aq;
+      result-qualifier = rw (parts .result-qualifier) rq;
+    }
 
--- A row whose own qualifier is noted first.
-module _ {u k left right left₁ right₁ : List ℕ} {n₁ : ℕ} (kids : List ℕ) (i y : ℕ) (classes : TypeClasses u k) (in-list : i < 256) (node : y < 327)
-    (noted : Noted left right left₁ right₁ 0 (i + 71) y n₁) where
-  pub row-noted : Joined kids u k left right u k left₁ right₁ 0 n₁ (SameQualifier (i + 71) y)
-  row-noted = noted-joined classes (no-pairs u left right) (omega arith) (omega arith) node noted
+-- A row's step from what its rule asks of its type node and its qualifier node.
+abbrev Fine : (i q : ℕ) (kids u k p b u′ k′ p′ b′ : List ℕ) (F : (ℕ → Ty ℕ) → (ℕ → ℕ) → Type 0) → Type 0
+Fine i q kids u k p b u′ k′ p′ b′ F =
+    Extended kids u k p b u′ k′ p′ b′ (λ t v. (v (i + 71) ≡ v q) × F t v) (λ v. Unit {0}) × Ready (i + 1) kids u′ k′ p′ b′
 
-  pub row-int : (u₂ k₂ left₂ right₂ : List ℕ) (a : Joining) → Answered kids u k left₁ right₁ u₂ k₂ left₂ right₂ n₁ (IsInt (i + 64)) a →
-      Answered kids u k left right u₂ k₂ left₂ right₂ 0 (λ t v. (v (i + 71) ≡ v y) × (t (i + 64) ≡ int)) a
-  row-int = then-answered row-noted (λ t v h. h) (λ t v h. h)
+module _ {i : ℕ} {kids u k p b : List ℕ} (in-list : i < 256) (types : TypeClasses u k) (classes : Classes p b) (ready : Ready i kids u k p b) where
+  pub new-qualifier : {p′ : List ℕ} {q : ℕ} → q < i + 71 → Hung p p′ (i + 71) q → United p b p′ b (i + 71) q true
+  new-qualifier low hung =
+      new-alike classes (omega arith) (omega arith) (ready .qualifiers .own (i + 71) (omega arith) (omega arith)) (ready .qualifiers .unbound (i + 71) (omega arith) (omega arith)) low hung
 
-  pub row-same : (ty : ℕ) (u₂ k₂ left₂ right₂ : List ℕ) (a : Joining) → Answered kids u k left₁ right₁ u₂ k₂ left₂ right₂ n₁ (Same (i + 64) ty) a →
-      Answered kids u k left right u₂ k₂ left₂ right₂ 0 (λ t v. (v (i + 71) ≡ v y) × (t (i + 64) ≡ t ty)) a
-  row-same ty = then-answered row-noted (λ t v h. h) (λ t v h. h)
+  row-fine : {u′ k′ p′ : List ℕ} {q : ℕ} {F : (ℕ → Ty ℕ) → (ℕ → ℕ) → Type 0} → q < i + 71 → Hung p p′ (i + 71) q → Reduced kids u k u′ k′ F Always →
+      Unused (i + 1 + 64) u′ k′ kids → Fine i q kids u k p b u′ k′ p′ b F
+  row-fine low hung reduced unused =
+      let united = new-qualifier low hung in (
+        extended (taken-beside reduced (λ t v e. (e .1, e .0)) (λ t v f q. (q, f))) (equated-one united),
+        record {
+          types = unused;
+          qualifiers = united .stays (i + 1 + 71) (omega arith) (omega arith) (untouched-more (omega arith) (ready .qualifiers));
+          within = ready .within;
+        },
+      )
 
-  pub row-arrow : (aq at rq rt : ℕ) → HasParts kids (i + 64) aq at rq rt →
-      (u₂ k₂ left₂ right₂ : List ℕ) (a : Joining) → Answered kids u k left₁ right₁ u₂ k₂ left₂ right₂ n₁ (IsArrow kids (i + 64) (i + 64)) a →
-      Answered kids u k left right u₂ k₂ left₂ right₂ 0 (λ t v. (v (i + 71) ≡ v y) × (t (i + 64) ≡ arrow (v aq) (t at) (v rq) (t rt))) a
-  row-arrow aq at rq rt parts =
-      then-answered row-noted (λ t v h. (h .0, h .1 ∙ sym (arrow-parts parts t v))) (λ t v h. (h .0, h .1 ∙ arrow-parts parts t v))
+  -- The row's own node before its step, and the nodes after it.
+  abbrev own : ℕ
+  own = i + 64
 
--- An APP row makes its function the arrow of its own descriptor.
-pub row-applied : (kids u k left right u₂ k₂ left₂ right₂ : List ℕ) (i f a : ℕ) → HasParts kids (i + 64) (a + 71) (a + 64) (i + 71) (i + 64) → (r : Joining) →
-    Answered kids u k left right u₂ k₂ left₂ right₂ 0 (IsArrow kids (f + 64) (i + 64)) r →
-    Answered kids u k left right u₂ k₂ left₂ right₂ 0 (λ t v. t (f + 64) ≡ arrow (v (a + 71)) (t (a + 64)) (v (i + 71)) (t (i + 64))) r
-row-applied kids u k left right u₂ k₂ left₂ right₂ i f a parts =
-    answered-as kids u k left right u₂ k₂ left₂ right₂ 0 (λ t v h. h ∙ sym (arrow-parts parts t v)) (λ t v h. h ∙ arrow-parts parts t v)
+  next : Unused (i + 1 + 64) u k kids
+  next = unused-more (ready .types) (omega arith)
+
+  pub row-int : {k′ p′ : List ℕ} {q : ℕ} → q < i + 71 → Known i q 1 k p k′ p′ → Fine i q kids u k p b u k′ p′ b (λ t v. t (i + 64) ≡ int)
+  row-int low known =
+      rw (known .kind)
+      (row-fine low (known .qualifier)
+      (new-int types (omega arith) (ready .types .own own (omega arith) (omega arith)) (ready .types .unknown own (omega arith) (omega arith)))
+      (unused-kind next own 1 (omega arith) (omega arith) (types .size) (λ two. absurd (omega arith))))
+
+  pub row-same : {u′ p′ : List ℕ} {q ty : ℕ} → q < i + 71 → ty < 64 → Hung u u′ (i + 64) ty → Hung p p′ (i + 71) q →
+      Fine i q kids u k p b u′ k p′ b (λ t v. t (i + 64) ≡ t ty)
+  row-same low small above hung =
+      row-fine low hung
+      (new-same types (omega arith) (ready .types .own own (omega arith) (omega arith)) (ready .types .unknown own (omega arith) (omega arith)) (omega arith) above)
+      (unused-hung next (omega arith) above)
+
+  pub row-arrow : {k′ p′ : List ℕ} {aq at rq rt : ℕ} → Known i 0 (i + 66) k p k′ p′ → HasParts kids (i + 64) aq at rq rt →
+      aq < i + 71 → at < i + 64 → rq < i + 71 → rt < i + 64 →
+      Fine i 0 kids u k p b u k′ p′ b (λ t v. t (i + 64) ≡ arrow (v aq) (t at) (v rq) (t rt))
+  row-arrow {k′} {p′} {aq} {at} {rq} {rt} known parts haq hat hrq hrt =
+      let kinds : k′ ≡ set k (i + 64) (i + 64 + 2) = subst (λ (m : ℕ). k′ ≡ set k (i + 64) m) (omega arith) (known .kind) in
+      let within : Within (i + 1 + 64) kids (i + 64 + 2 - 2) =
+      subst (Within (i + 1 + 64) kids) (omega arith) (parts-within parts (omega arith) (omega arith) (omega arith) (omega arith) (omega arith)) in
+      let fine =
+      row-fine (omega arith) (known .qualifier)
+      (new-arrow types (omega arith) (ready .types .own own (omega arith) (omega arith)) (ready .types .unknown own (omega arith) (omega arith)) (i + 64) (omega arith))
+      (unused-kind next own (i + 64 + 2) (omega arith) (omega arith) (types .size) (λ two. within)) in
+      rw kinds (extended-as (λ t v e. (e .0, e .1 ∙ sym (arrow-parts parts t v))) (λ t v e. (e .0, e .1 ∙ arrow-parts parts t v)) (fine .0), fine .1)

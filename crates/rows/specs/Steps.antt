@@ -1,16 +1,17 @@
 -- What one row's step does to the solver's state, said by the readings of the nodes.
-use Prim.Native.Nat.{ℕ, _<_}
-use mathlib.Core.Bool.{Bool, true, false}
+use Prim.Native.Nat.{ℕ, _+_, _<_}
+use mathlib.Core.Bool.{true}
 use mathlib.Core.List.{List}
 use mathlib.Core.Path.{_≡_}
 use Rattle.model.specs.Typing.{Ty}
-use Rattle.forest.specs.Forest.{Linked}
-use Rattle.graph.specs.Types.{TypeClasses, Reads}
-use Rattle.qualifiers.specs.Classes.{Classes, Constant, Bounded}
-use Rattle.model.specs.declared.Term.the-variants.{Op}
-use Rattle.readings.specs.Nodes.{RowHolds}
+use lib.ListN.{set}
+use Rattle.scheme.specs.Order.{atOrBelow}
+use Rattle.forest.specs.Forest.{Linked, Hung}
+use Rattle.graph.specs.Types.{TypeClasses, Reads, Clashes, Intact}
+use Rattle.graph.specs.Unused.{Unused}
+use Rattle.qualifiers.specs.Classes.{boundAt, Classes, Constant, Bounded, Untouched}
 use Rattle.rows.specs.declared.Verdict.{Verdict}
-use Rattle.rows.specs.declared.Verdict.the-variants.{Fine, Shapes, Apart, Broken}
+use Rattle.rows.specs.declared.Verdict.the-variants.{Fine, Shapes, Lost, Apart, Broken}
 
 -- The readings after are those before that meet the row's equations E, and its bound F.
 pub record Extended (kids u k p b u′ k′ p′ b′ : List ℕ) (E : (ℕ → Ty ℕ) → (ℕ → ℕ) → Type 0) (F : (ℕ → ℕ) → Type 0) : Type 0 where
@@ -29,20 +30,23 @@ pub record Parted (kids u k p u′ k′ : List ℕ) (E : (ℕ → Ty ℕ) → (�
   pub shapes : (t : ℕ → Ty ℕ) (v : ℕ → ℕ) → Reads u k kids t v → E t v → Reads u′ k′ kids t v
   pub erased : (t : ℕ → Ty ℕ) → Reads u′ k′ kids t (λ x. 0) → Reads u k kids t (λ x. 0) × E t (λ x. 0)
 
--- A row went through; or its types clash; or two constants meet; or a constant is above its bound.
-abbrev pub Stepped : (kids u k p b u′ k′ p′ b′ : List ℕ) (E : (ℕ → Ty ℕ) → (ℕ → ℕ) → Type 0) (F : (ℕ → ℕ) → Type 0) → Verdict → Type 0
-Stepped kids u k p b u′ k′ p′ b′ E F Fine = Extended kids u k p b u′ k′ p′ b′ E F
-Stepped kids u k p b u′ k′ p′ b′ E F Shapes = (t : ℕ → Ty ℕ) (v : ℕ → ℕ) → Reads u k kids t v → E t v → ⊥
-Stepped kids u k p b u′ k′ p′ b′ E F Apart = Parted kids u k p u′ k′ E
-Stepped kids u k p b u′ k′ p′ b′ E F Broken = Extended kids u k p b u′ k′ p′ b′ E F × ((v : ℕ → ℕ) → Constant v → Bounded b′ v → ⊥)
+-- Before row i: no row has touched its nodes and those of the rows after it, and every constant is at or below its bound.
+pub record Ready (i : ℕ) (kids u k p b : List ℕ) : Type 0 where
+  pub types : Unused (i + 64) u k kids
+  pub qualifiers : Untouched (i + 71) p b
+  pub within : (c : ℕ) → c < 7 → atOrBelow c (boundAt b c) ≡ true
 
--- A row's bound was taken in: the bounds after are those before with F; false: no reading is within them.
-pub record Bounding (p b b′ : List ℕ) (F : (ℕ → ℕ) → Type 0) (r : Bool) : Type 0 where
-  pub classes : Classes p b′
-  pub into : (v : ℕ → ℕ) → Linked p v → Bounded b v → F v → Bounded b′ v
-  pub outof : (v : ℕ → ℕ) → Linked p v → Bounded b′ v → Bounded b v × F v
-  pub broken : r ≡ false → (v : ℕ → ℕ) → Constant v → Bounded b′ v → ⊥
+-- Row i went through; or its types clash, and the types are as they were; or its types clash; or two constants meet; or a constant is above its
+-- bound. All but the third leave the nodes of the rows after it as they were.
+abbrev pub Stepped : (i : ℕ) (kids u k p b u′ k′ p′ b′ : List ℕ) (E : (ℕ → Ty ℕ) → (ℕ → ℕ) → Type 0) (F : (ℕ → ℕ) → Type 0) → Verdict → Type 0
+Stepped i kids u k p b u′ k′ p′ b′ E F Fine = Extended kids u k p b u′ k′ p′ b′ E F × Ready (i + 1) kids u′ k′ p′ b′
+Stepped i kids u k p b u′ k′ p′ b′ E F Shapes = Clashes kids u k E × Intact kids u k u′ k′ × Unused (i + 1 + 64) u′ k′ kids
+Stepped i kids u k p b u′ k′ p′ b′ E F Lost = Clashes kids u k E
+Stepped i kids u k p b u′ k′ p′ b′ E F Apart = Parted kids u k p u′ k′ E × Unused (i + 1 + 64) u′ k′ kids
+Stepped i kids u k p b u′ k′ p′ b′ E F Broken =
+    Extended kids u k p b u′ k′ p′ b′ E F × Unused (i + 1 + 64) u′ k′ kids × ((v : ℕ → ℕ) → Constant v → Bounded b′ v → ⊥)
 
--- The equations of an OP row.
-abbrev pub OpHolds : ℕ → ℕ → ℕ → ℕ → (ℕ → Ty ℕ) → (ℕ → ℕ) → Type 0
-OpHolds i o l r t v = RowHolds i (Op o l r) 0 0 t v
+-- A node of its own was given a kind, and the row's qualifier put under the root above q.
+pub record Known (i q m : ℕ) (k p k′ p′ : List ℕ) : Type 0 where
+  pub kind : k′ ≡ set k (i + 64) m
+  pub qualifier : Hung p p′ (i + 71) q

@@ -41,8 +41,7 @@ rowQualifier m i = paramAt m (parameterOf (termAt m i)) .qualifier
 abbrev pub rowTyperow : Machine → ℕ → ℕ
 rowTyperow m i = paramAt m (parameterOf (termAt m i)) .typerow
 
--- The descriptors are those of the machine's arrows.
+-- The descriptors of type rows are those of the machine's arrows.
 pub record Described (m : Machine) (kids : List ℕ) : Type 0 where
   pub parts : Parts kids
   pub types : (x : ℕ) → x < length (m .types) → (q a q′ b : ℕ) → typeAt m x ≡ Arrow q a q′ b → HasParts kids x q a q′ b
-  pub rows : (i : ℕ) → i < length (m .terms) → Describes kids i (termAt m i) (rowQualifier m i) (rowTyperow m i)

@@ -26,10 +26,6 @@ DescribesForm kids x Int = Unit {0}
 DescribesForm kids x Any = Unit {0}
 DescribesForm kids x (Arrow q a q′ b) = HasParts kids x q a q′ b
 
-abbrev pub DescribesTerm : List ℕ → List Param → ℕ → Term → Type 0
-DescribesTerm kids params i term =
-    Describes kids i term (paramIn params (parameterOf term) .qualifier) (paramIn params (parameterOf term) .typerow)
-
 -- What makes the parts of a term row's descriptor nodes: a LAM and an APP name rows below their own, and a LAM a parameter that stands.
 abbrev pub HasNodes : Param → ℕ → Term → Type 0
 HasNodes param i (Lam p b) = (b < i) × ParamStands 64 param
@@ -42,22 +38,14 @@ HasNodes param i (Enc s n) = Unit {0}
 abbrev pub FormsStand : List TypeRow → ℕ → Type 0
 FormsStand types count = (x : ℕ) → x < count → TypeStands x (formIn types x)
 
--- Each of the first rows names a place of the parameters, and has its nodes.
-abbrev pub TermsHaveNodes : List Param → List TermRow → ℕ → Type 0
-TermsHaveNodes params terms count =
-    (i : ℕ) → i < count → (parameterOf (termIn terms i) < 64) × HasNodes (paramIn params (parameterOf (termIn terms i))) i (termIn terms i)
-
 -- No descriptor but d has changed.
 pub record Only (d : ℕ) (kids kids′ : List ℕ) : Type 0 where
   pub parts : Parts kids′
   pub others : (e j : ℕ) → (e ≡ d → ⊥) → j < 4 → partAt kids′ e j ≡ partAt kids e j
 
--- The descriptors of the first type rows, and of the first term rows.
+-- The descriptors of the first type rows.
 abbrev pub FormsDescribed : List TypeRow → ℕ → List ℕ → Type 0
 FormsDescribed types count kids = (x : ℕ) → x < count → DescribesForm kids x (formIn types x)
-
-abbrev pub TermsDescribed : List Param → List TermRow → ℕ → List ℕ → Type 0
-TermsDescribed params terms count kids = (i : ℕ) → i < count → DescribesTerm kids params i (termIn terms i)
 
 -- No descriptor of a type row has changed.
 abbrev pub FormsKept : List ℕ → List ℕ → Type 0

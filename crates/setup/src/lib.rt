@@ -1,19 +1,18 @@
-// The solver's state before any term row: descriptors of all arrows, roots, kinds and bounds.
+// The solver's state before any term row: descriptors of arrows, roots, kinds and bounds.
 use model::Param;
 use model::Term;
-use model::TermRow;
 use model::TypeForm;
 use model::TypeRow;
 ghost use mathlib.Core.Path.{_≡_};
 ghost use Prim.Native.Nat.{_+_, _<_, _≤_};
 ghost use lib.ListN.{take};
 ghost use Rattle.model.specs.Machine.{Machine};
-ghost use Rattle.model.specs.WellFormed.{WellFormed, TypeStands};
+ghost use Rattle.model.specs.WellFormed.{TypeStands};
 ghost use Rattle.graph.specs.Types.{Parts};
 ghost use Rattle.readings.specs.Nodes.{parameterOf};
-ghost use Rattle.setup.specs.Descriptors.{HasParts, machineOf, Describes, Described};
+ghost use Rattle.setup.specs.Descriptors.{HasParts, Describes};
 ghost use Rattle.setup.specs.Started.{formKind, Started};
-ghost use Rattle.setup.specs.Passes.{DescribesForm, HasNodes, FormsStand, TermsHaveNodes, Only, FormsDescribed, TermsDescribed, FormsKept, SelfRooted, Kinds};
+ghost use Rattle.setup.specs.Passes.{DescribesForm, HasNodes, FormsStand, Only, FormsDescribed, SelfRooted, Kinds};
 
 // Writes descriptor d: the argument's qualifier and type node, then the result's.
 fn write(
@@ -56,7 +55,7 @@ fn describe_form(form: TypeForm, x: usize, kids: &mut [u16; 1280])
 }
 
 // Writes the descriptors of the first type rows.
-fn describe_forms(types: [TypeRow; 64], count: usize, kids: &mut [u16; 1280])
+pub fn describe_forms(types: [TypeRow; 64], count: usize, kids: &mut [u16; 1280])
     requires { ⌜ Parts (now kids) ⌝ ∗ ⌜ (count ≤ 64) × FormsStand types count ⌝ }
     ensures { λ _. ⌜ Parts (now (kids .exit)) × FormsDescribed types count (now (kids .exit)) ⌝ }
 {
@@ -84,7 +83,7 @@ pub fn parameter(term: Term) -> usize
 }
 
 // Writes the descriptor of a term row, if it is a LAM, whose parameter is given, or an APP.
-fn describe_term(term: Term, i: usize, param: Param, kids: &mut [u16; 1280])
+pub fn describe_term(term: Term, i: usize, param: Param, kids: &mut [u16; 1280])
     requires { ⌜ Parts (now kids) ⌝ ∗ ⌜ (i < 256) × HasNodes param i term ⌝ }
     ensures { λ _. ⌜ Only (i + 64) (now (kids .entry)) (now (kids .exit)) × Describes (now (kids .exit)) i term (param .qualifier) (param .typerow) ⌝ }
 {
@@ -115,41 +114,6 @@ fn describe_term(term: Term, i: usize, param: Param, kids: &mut [u16; 1280])
         Term::Num(_) => {}
         Term::Enc(_, _) => {}
     }
-}
-
-// Writes the descriptors of the first term rows.
-fn describe_terms(params: [Param; 64], terms: [TermRow; 256], count: usize, kids: &mut [u16; 1280])
-    requires { ⌜ Parts (now kids) ⌝ ∗ ⌜ (count ≤ 256) × TermsHaveNodes params terms count ⌝ }
-    ensures { λ _. ⌜ Parts (now (kids .exit)) × FormsKept (now (kids .entry)) (now (kids .exit)) × TermsDescribed params terms count (now (kids .exit)) ⌝ }
-{
-    let mut i = 0;
-    while i < count {
-        let row = terms[i];
-        let term = row.term;
-        let p = parameter(term);
-        // read here: to pass the array on would copy it for every row
-        let param = params[p];
-        describe_term(term, i, param, kids);
-        i += 1;
-    }
-}
-
-// Writes the descriptor of every ARROW row, LAM and APP.
-pub fn describe(
-    types: [TypeRow; 64],
-    typecount: usize,
-    params: [Param; 64],
-    paramcount: usize,
-    terms: [TermRow; 256],
-    termcount: usize,
-    kids: &mut [u16; 1280],
-)
-    requires { ⌜ WellFormed (machineOf types typecount params paramcount terms termcount) ⌝ ∗ ⌜ (typecount ≤ 64) × (paramcount ≤ 64) × (termcount ≤ 256) ⌝ }
-    ensures { λ _. ⌜ Described (machineOf types typecount params paramcount terms termcount) (now (kids .exit)) ⌝ }
-{
-    *kids = [0; 1280];
-    describe_forms(types, typecount, kids);
-    describe_terms(params, terms, termcount, kids);
 }
 
 // The parents of nodes that are all roots.

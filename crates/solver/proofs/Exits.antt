@@ -1,119 +1,125 @@
 -- What each exit of a run says of every machine that the arrays hold.
-use Prim.Native.Nat.{ℕ, _+_, _<_, _≤_}
+use Prim.Native.Nat.{ℕ, _+_, _<_}
 use native.Mathlib.Omega.{arith}
-use mathlib.Core.Bool.{true}
 use mathlib.Core.List.{List}
-use mathlib.Core.Logic.{_⊎_, inl, inr}
-use mathlib.Core.Path.{_≡_, refl, sym, ap, subst, subst₂, _∙_}
+use mathlib.Core.Path.{_≡_, sym, subst, subst₂}
 use lib.ListN.{length, take}
-use Rattle.scheme.specs.Order.{atOrBelow}
 use Rattle.model.specs.Machine.{Machine, paramIn, termIn, paramAt, termAt}
 use Rattle.model.specs.Typing.{Ty}
-use Rattle.model.specs.Inference.{Cause}
+use Rattle.model.specs.Strength.{six}
+use Rattle.model.specs.Inference.{Refusal}
 use Rattle.model.specs.declared.Param.{Param}
 use Rattle.model.specs.declared.Term.{Term}
 use Rattle.model.specs.declared.TermRow.{TermRow}
 use Rattle.graph.specs.Types.{Parts, Reads}
-use Rattle.graph.specs.Search.{Finite}
-use Rattle.qualifiers.specs.Classes.{boundAt, Constant, Bounded}
 use Rattle.readings.specs.Nodes.{RowHolds, RowFits, parameterOf}
-use Rattle.rows.specs.Steps.{Extended, Parted, Stepped}
+use Rattle.rows.specs.Steps.{Ready, Stepped}
 use Rattle.rows.specs.declared.Verdict.{Verdict}
 use Rattle.solver.specs.State.{After}
-use Rattle.solver.specs.Runs.{Fails, Judges, RowsOf, Ran, Finishes, Ended}
+use Rattle.solver.specs.Runs.{Fails, Halts, Finishes, RowsOf, RunFrom, Ran}
 use Rattle.solver.specs.declared.Run.{Run}
-use Rattle.solver.specs.declared.Run.the-variants.{Whole, Stopped}
+use Rattle.solver.specs.declared.Run.the-variants.{Whole, Least, Stopped}
 use Rattle.solver.proofs.Progress.{Row, Limit, after-more}
-use Rattle.solver.proofs.Stops.{fails-shapes, fails-apart, fails-bounds, cyclic, finite-unordered, broken-whole, finite-whole, clash-row, apart-row, apart-cyclic, apart-finite}
+use Rattle.solver.proofs.Ready.{refusal-of}
+use Rattle.solver.proofs.Stops.{AllFinite, Readable, fails-shapes, fails-apart, fails-bounds, cyclic, finite-unordered, broken-whole, finite-whole, read-whole, clash-row, apart-row, apart-cyclic, apart-finite, clash-before, apart-before, broken-before}
 
 -- The rule of row i, from the row's term and the parameter that it names.
-abbrev pub RowOf : ℕ → Term → Param → (ℕ → Ty ℕ) → (ℕ → ℕ) → Type 0
+abbrev RowOf : ℕ → Term → Param → (ℕ → Ty ℕ) → (ℕ → ℕ) → Type 0
 RowOf i term param = RowHolds i term (param .qualifier) (param .typerow)
 
-module _ (params : List Param) (count : ℕ) (terms : List TermRow) (rows : ℕ) (m : Machine) (of : RowsOf m params count terms rows)
-    (kids u k p b : List ℕ) (parts : Parts kids) (i : ℕ) (below : i < rows) (after : After m kids u k p b i)
-    (param : Param) (is : param ≡ paramIn (take count params) (parameterOf (termIn terms i))) where
-  in-list : i < length (m .terms)
-  in-list = of .same-term i below .0
+-- The turn of row i: its descriptor is written, and the state is the one after the rows before it.
+pub record Turn (params : List Param) (count : ℕ) (terms : List TermRow) (rows : ℕ) (kids₀ u₀ k₀ p₀ b₀ kids u k p b : List ℕ) (i : ℕ) (param : Param) : Type 0 where
+  pub below : i < rows
+  pub named : param ≡ paramIn (take count params) (parameterOf (termIn terms i))
+  pub parts : Parts kids
+  pub ready : Ready i kids u k p b
+  pub after : (m : Machine) → RowsOf m params count terms rows → After m kids₀ u₀ k₀ p₀ b₀ 0 → After m kids u k p b i
 
-  -- The parameter is the one that the machine's row names.
-  at-parameter : param ≡ paramAt m (parameterOf (termAt m i))
-  at-parameter = rw (of .same-params, of .same-term i below .1) is
+module _ {params : List Param} {count : ℕ} {terms : List TermRow} {rows : ℕ} {kids₀ u₀ k₀ p₀ b₀ kids u k p b : List ℕ} {i : ℕ} {param : Param}
+    (turn : Turn params count terms rows kids₀ u₀ k₀ p₀ b₀ kids u k p b i param) where
+  -- The step of the array's row.
+  abbrev Step : (u′ k′ p′ b′ : List ℕ) → Verdict → Type 0
+  Step u′ k′ p′ b′ r = Stepped i kids u k p b u′ k′ p′ b′ (RowOf i (termIn terms i) param) (RowFits (termIn terms i)) r
 
-  -- The step of the array's row is that of the machine's row.
-  at-machine : (u′ k′ p′ b′ : List ℕ) (r : Verdict) → Stepped kids u k p b u′ k′ p′ b′ (RowOf i (termIn terms i) param) (RowFits (termIn terms i)) r →
-      Stepped kids u k p b u′ k′ p′ b′ (Row m i) (Limit m i) r
-  at-machine u′ k′ p′ b′ r =
-      subst₂ (λ (term : Term) (named : Param). Stepped kids u k p b u′ k′ p′ b′ (RowOf i term named) (RowFits term) r) (sym (of .same-term i below .1)) at-parameter
+  module _ (m : Machine) (of : RowsOf m params count terms rows) where
+    in-list : i < length (m .terms)
+    in-list = of .same-term i (turn .below) .0
 
-  pub went-on : (u′ k′ p′ b′ : List ℕ) → Stepped kids u k p b u′ k′ p′ b′ (RowOf i (termIn terms i) param) (RowFits (termIn terms i)) Verdict.Fine →
-      After m kids u′ k′ p′ b′ (i + 1)
-  went-on u′ k′ p′ b′ step = after-more m kids u k p b u′ k′ p′ b′ i in-list after (at-machine u′ k′ p′ b′ Verdict.Fine step)
+    -- The parameter is the one that the machine's row names.
+    at-parameter : param ≡ paramAt m (parameterOf (termAt m i))
+    at-parameter = rw (of .same-params, of .same-term i (turn .below) .1) (turn .named)
 
-  pub stopped-shapes : Stepped kids u k p b u k p b (RowOf i (termIn terms i) param) (RowFits (termIn terms i)) Verdict.Shapes → (i < rows) × Fails m 21 i
-  stopped-shapes step =
-      (below, fails-shapes m (of .well-formed) (i + 1) (clash-row m (of .well-formed) kids u k p b parts i in-list after (at-machine u k p b Verdict.Shapes step)))
+    -- The step of the array's row is that of the machine's row.
+    at-machine : (u′ k′ p′ b′ : List ℕ) (r : Verdict) → Step u′ k′ p′ b′ r → Stepped i kids u k p b u′ k′ p′ b′ (Row m i) (Limit m i) r
+    at-machine u′ k′ p′ b′ r =
+        subst₂ (λ (term : Term) (named : Param). Stepped i kids u k p b u′ k′ p′ b′ (RowOf i term named) (RowFits term) r) (sym (of .same-term i (turn .below) .1)) at-parameter
 
-  pub stopped-apart : (u′ k′ : List ℕ) (number : ℕ) → Stepped kids u k p b u′ k′ p b (RowOf i (termIn terms i) param) (RowFits (termIn terms i)) Verdict.Apart →
-      Judges u′ k′ kids 22 number → (i < rows) × Fails m number i
-  stopped-apart u′ k′ number step (inl (e, all)) =
-      let apart = at-machine u′ k′ p b Verdict.Apart step in (
-        below,
-        subst (λ (n : ℕ). Fails m n i) (sym e)
-            (fails-apart m (of .well-formed) (i + 1)
-            (apart-finite m (of .well-formed) kids u k p b parts i in-list after u′ k′ apart all)
-            (apart-row m (of .well-formed) kids u k p b parts i in-list after u′ k′ apart)),
-      )
-  stopped-apart u′ k′ number step (inr (e, none)) =
-      let apart = at-machine u′ k′ p b Verdict.Apart step in (
-        below,
-        subst (λ (n : ℕ). Fails m n i) (sym e)
-            (fails-shapes m (of .well-formed) (i + 1) (apart-cyclic m (of .well-formed) kids u k p b parts i in-list after u′ k′ apart none)),
-      )
+    -- A run that ends at the row: where every type is finite the types before it have a reading, and else none has.
+    halted : (after : After m kids u k p b i) (u′ k′ p′ b′ : List ℕ) (number : ℕ) (r : Run) →
+        (AllFinite u′ k′ kids → Fails m number i × Readable u k kids) →
+        (((t : ℕ → Ty ℕ) (v : ℕ → ℕ) → Reads u′ k′ kids t v → ⊥) → Fails m 21 i) →
+        Halts u′ k′ kids number i r → Ran m kids u′ k′ p′ b′ rows r
+    halted after u′ k′ p′ b′ number Whole finite none halts = absurd halts
+    halted after u′ k′ p′ b′ number (Least n row) finite none (e, at, all) =
+        let known = finite all in
+        let before = read-whole (of .well-formed) after (turn .parts) (known .1 .1) (turn .ready .within) in
+        (rw at (turn .below), subst₂ (Refusal six m) (sym e) (sym at) (refusal-of m number i in-list (known .0) before))
+    halted after u′ k′ p′ b′ number (Stopped n row) finite none (e, at, unread) = (rw at (turn .below), subst₂ (Fails m) (sym e) (sym at) (none unread))
 
-  pub stopped-broken : (u′ k′ p′ b′ : List ℕ) (number : ℕ) → Stepped kids u k p b u′ k′ p′ b′ (RowOf i (termIn terms i) param) (RowFits (termIn terms i)) Verdict.Broken →
-      Judges u′ k′ kids 23 number → (i < rows) × Fails m number i
-  stopped-broken u′ k′ p′ b′ number step (inl (e, all)) =
-      let broken = at-machine u′ k′ p′ b′ Verdict.Broken step in
-      let next = after-more m kids u k p b u′ k′ p′ b′ i in-list after (broken .0) in (
-        below,
-        subst (λ (n : ℕ). Fails m n i) (sym e)
-            (fails-bounds m (of .well-formed) (i + 1)
-            (finite-unordered m (of .well-formed) kids u′ k′ p′ b′ parts (i + 1) next all)
-            (broken-whole m (of .well-formed) kids u′ k′ p′ b′ parts (i + 1) next (broken .1))),
-      )
-  stopped-broken u′ k′ p′ b′ number step (inr (e, none)) =
-      let broken = at-machine u′ k′ p′ b′ Verdict.Broken step in
-      let next = after-more m kids u k p b u′ k′ p′ b′ i in-list after (broken .0) in (
-        below,
-        subst (λ (n : ℕ). Fails m n i) (sym e)
-            (fails-shapes m (of .well-formed) (i + 1) (cyclic m (of .well-formed) kids u′ k′ p′ b′ parts (i + 1) next none)),
-      )
+  pub went-on : (u′ k′ p′ b′ : List ℕ) → Step u′ k′ p′ b′ Verdict.Fine →
+      (m : Machine) → RowsOf m params count terms rows → After m kids₀ u₀ k₀ p₀ b₀ 0 → After m kids u′ k′ p′ b′ (i + 1)
+  went-on u′ k′ p′ b′ step m of start =
+      after-more m kids u k p b u′ k′ p′ b′ i (in-list m of) (turn .after m of start) (at-machine m of u′ k′ p′ b′ Verdict.Fine step .0)
 
--- The tests at the end.
-module _ (params : List Param) (count : ℕ) (terms : List TermRow) (rows : ℕ) (m : Machine) (of : RowsOf m params count terms rows)
-    (kids u k p b : List ℕ) (parts : Parts kids) (after : After m kids u k p b rows) where
-  last-row : (row : ℕ) → row + 1 ≡ rows → After m kids u k p b (row + 1)
-  last-row row e = subst (λ (n : ℕ). After m kids u k p b n) (sym e) after
+  -- The types clash, and nothing is known of the state after.
+  pub stopped-lost : Step u k p b Verdict.Lost → RunFrom params count terms kids₀ u₀ k₀ p₀ b₀ kids u k p b rows (Stopped 21 i)
+  stopped-lost step m of start =
+      let clash = at-machine m of u k p b Verdict.Lost step in
+      (turn .below, fails-shapes m (i + 1) (clash-row (of .well-formed) (in-list m of) (turn .after m of start) clash))
 
-  stopped-late : (number row : ℕ) → row + 1 ≡ rows →
-      (((number ≡ 21) × ((t : ℕ → Ty ℕ) (v : ℕ → ℕ) → Reads u k kids t v → ⊥))
-      ⊎ ((number ≡ 23) × ((x : ℕ) → x < 327 → Finite u k kids x) × ((v : ℕ → ℕ) → Constant v → Bounded b v → ⊥))) → (row < rows) × Fails m number row
-  stopped-late number row e (inl (is, none)) = (
-    omega arith,
-    subst (λ (n : ℕ). Fails m n row) (sym is) (fails-shapes m (of .well-formed) (row + 1) (cyclic m (of .well-formed) kids u k p b parts (row + 1) (last-row row e) none)),
+  module _ (u′ k′ p′ b′ : List ℕ) where
+    -- What a run that ends at the row says.
+    abbrev Ends : Run → Type 0
+    Ends r = RunFrom params count terms kids₀ u₀ k₀ p₀ b₀ kids u′ k′ p′ b′ rows r
+
+    pub stopped-shapes : (r : Run) → Step u′ k′ p′ b′ Verdict.Shapes → Halts u′ k′ kids 21 i r → Ends r
+    stopped-shapes r step halts m of start =
+        let after = turn .after m of start in
+        let clash = at-machine m of u′ k′ p′ b′ Verdict.Shapes step in
+        let fails = fails-shapes m (i + 1) (clash-row (of .well-formed) (in-list m of) after (clash .0)) in
+        halted m of after u′ k′ p′ b′ 21 r (λ all. (fails, clash-before (turn .parts) all (clash .1))) (λ none. fails) halts
+
+    pub stopped-apart : (r : Run) → Step u′ k′ p′ b′ Verdict.Apart → Halts u′ k′ kids 22 i r → Ends r
+    stopped-apart r step halts m of start =
+        let wf = of .well-formed in
+        let row = in-list m of in
+        let after = turn .after m of start in
+        let apart = at-machine m of u′ k′ p′ b′ Verdict.Apart step .0 in
+        halted m of after u′ k′ p′ b′ 22 r
+        (λ all. (fails-apart m (i + 1) (apart-finite wf row after apart (turn .parts) all) (apart-row wf row after apart), apart-before (turn .parts) all apart))
+        (λ none. fails-shapes m (i + 1) (apart-cyclic wf row after apart none))
+        halts
+
+    pub stopped-broken : (r : Run) → Step u′ k′ p′ b′ Verdict.Broken → Halts u′ k′ kids 23 i r → Ends r
+    stopped-broken r step halts m of start =
+        let wf = of .well-formed in
+        let after = turn .after m of start in
+        let broken = at-machine m of u′ k′ p′ b′ Verdict.Broken step in
+        let next = after-more m kids u k p b u′ k′ p′ b′ i (in-list m of) after (broken .0) in
+        halted m of after u′ k′ p′ b′ 23 r
+        (λ all. (fails-bounds m (i + 1) (finite-unordered wf next (turn .parts) all) (broken-whole wf next (broken .2)), broken-before (turn .parts) all (broken .0)))
+        (λ none. fails-shapes m (i + 1) (cyclic wf next none))
+        halts
+
+-- The test at the end.
+module _ {params : List Param} {count : ℕ} {terms : List TermRow} {rows : ℕ} {m : Machine} (of : RowsOf m params count terms rows)
+    {kids u k p b : List ℕ} (parts : Parts kids) (ready : Ready rows kids u k p b) (after : After m kids u k p b rows) where
+  pub ran-out : (r : Run) → Finishes u k kids rows r → Ran m kids u k p b rows r
+  ran-out Whole all = (
+    finite-whole (of .well-formed) after parts all (ready .within),
+    λ some. record { after = after; finite = all; within = ready .within },
   )
-  stopped-late number row e (inr (is, all, none)) = (
-    omega arith,
-    subst (λ (n : ℕ). Fails m n row) (sym is)
-        (fails-bounds m (of .well-formed) (row + 1)
-        (finite-unordered m (of .well-formed) kids u k p b parts (row + 1) (last-row row e) all)
-        (broken-whole m (of .well-formed) kids u k p b parts (row + 1) (last-row row e) none)),
-  )
-
-  pub ran-out : (r : Run) → Finishes u k kids b rows r → Ran m kids u k p b rows r
-  ran-out Whole ends = (
-    finite-whole m (of .well-formed) kids u k p b parts rows after (ends .0) (ends .1),
-    λ some. record { after = after; finite = ends .0; within = ends .1 },
-  )
-  ran-out (Stopped number row) ends = stopped-late number row (ends .0) (ends .1)
+  ran-out (Least number row) ends = absurd ends
+  ran-out (Stopped number row) (e, at, none) =
+      let last = subst (After m kids u k p b) (sym at) after in
+      (omega arith, subst (λ (n : ℕ). Fails m n row) (sym e) (fails-shapes m (row + 1) (cyclic (of .well-formed) last none)))

@@ -1,5 +1,5 @@
 -- A run that went through all rows, settled and filled, places the program.
-use Prim.Native.Nat.{ℕ, _<_, _≤_}
+use Prim.Native.Nat.{ℕ, _≤_}
 use native.Mathlib.Omega.{arith}
 use mathlib.Core.List.{List}
 use mathlib.Core.Path.{_≡_, sym, ap, subst, _∙_}
@@ -14,7 +14,6 @@ use Rattle.qualifiers.specs.Classes.{boundAt, Greatest}
 use Rattle.occurs.specs.Kinds.{Settled}
 use Rattle.readings.proofs.Accepted.{solved-accepted}
 use Rattle.report.specs.Codes as Codes
-use Rattle.report.specs.Written.{Matches}
 use Rattle.slots.specs.Filled.{Filled}
 use Rattle.solver.specs.State.{After}
 use Rattle.solver.specs.Runs.{Ended, Refuses, Solves}
@@ -23,7 +22,7 @@ use Rattle.solver.specs.declared.Answer.the-variants.{Placed, Refused}
 use Rattle.solver.proofs.Solving.{state-solved}
 
 -- What is accepted is accepted in other words for the same slots.
-pub accepted-as : (m : Machine) {word word′ : Slot → ℕ} {shape shape′ : Slot → Shape} →
+accepted-as : (m : Machine) {word word′ : Slot → ℕ} {shape shape′ : Slot → Shape} →
     ((x : Slot) → Listed six m x → word′ x ≡ word x) → ((x : Slot) → Listed six m x → shape′ x ≡ shape x) →
     Accepted six m word shape → Accepted six m word′ shape′
 accepted-as m same-word same-shape a =
@@ -43,9 +42,9 @@ accepted-as m same-word same-shape a =
 pub counted : (terms : List TermRow) (termcount : ℕ) → length terms ≡ 256 → termcount ≤ 256 → termcount ≡ length (take termcount terms)
 counted terms termcount size few = sym (length-take termcount terms ∙ omega arith)
 
-pub placed : (m : Machine) (kids u k p b b′ k′ : List ℕ) (rows : ℕ) (codes : Codes.Codes) → WellFormed m → Parts kids → rows ≡ length (m .terms) →
+pub placed : {m : Machine} {kids u k p b : List ℕ} (b′ k′ : List ℕ) {rows : ℕ} {codes : Codes.Codes} → WellFormed m → Parts kids → rows ≡ length (m .terms) →
     Ended m kids u k p b rows → Greatest p b (boundAt b′) → Settled u k k′ → Filled m (boundAt b′) (kindAt k′) codes → Solves m codes Placed
-placed m kids u k p b b′ k′ rows codes wf parts whole ended g settled filled =
+placed {m} {kids} {u} {k} {p} {b} b′ k′ wf parts whole ended g settled filled =
     let solved =
     state-solved m kids u k p b k′ (boundAt b′) parts (subst (λ (n : ℕ). After m kids u k p b n) whole (ended .after)) (ended .finite) g settled in
     (accepted-as m (filled .words) (filled .shapes) (solved-accepted m wf (boundAt b′) (kindAt k′) solved), filled .matches)

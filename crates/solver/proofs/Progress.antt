@@ -1,13 +1,13 @@
 -- One row more.
-use Prim.Native.Nat.{ℕ, _+_, _<_, _≤_}
+use Prim.Native.Nat.{ℕ, _+_, _<_}
 use native.Mathlib.Omega.{arith}
 use native.Mathlib.Decide.{ℕ-discrete}
 use mathlib.Core.List.{List}
 use mathlib.Core.Path.{_≡_, sym, subst}
 use lib.ListN.{length}
-use Rattle.model.specs.Machine.{Machine, paramAt, termAt}
+use Rattle.model.specs.Machine.{Machine, termAt}
 use Rattle.model.specs.Typing.{Ty}
-use Rattle.readings.specs.Nodes.{RowHolds, RowFits, FitsAll, parameterOf}
+use Rattle.readings.specs.Nodes.{RowHolds, RowFits, FitsAll}
 use Rattle.readings.proofs.Rows.{meets-fewer, meets-last, meets-more}
 use Rattle.rows.specs.Steps.{Extended}
 use Rattle.setup.specs.Descriptors.{rowQualifier, rowTyperow}
@@ -20,7 +20,7 @@ Row m i t v = RowHolds i (termAt m i) (rowQualifier m i) (rowTyperow m i) t v
 abbrev pub Limit : Machine → ℕ → (ℕ → ℕ) → Type 0
 Limit m i v = RowFits (termAt m i) v
 
-pub fits-more : (m : Machine) (i : ℕ) (v : ℕ → ℕ) → FitsAll m i v → Limit m i v → FitsAll m (i + 1) v
+fits-more : (m : Machine) (i : ℕ) (v : ℕ → ℕ) → FitsAll m i v → Limit m i v → FitsAll m (i + 1) v
 fits-more m i v before last j below in-list = go (ℕ-discrete j i)
   where
     go : Dec (j ≡ i) → RowFits (termAt m j) v

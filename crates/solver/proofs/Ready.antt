@@ -1,9 +1,9 @@
 -- The arrays of a well-formed machine are ready for a run.
-use Prim.Native.Nat.{ℕ, _+_, _<_, _≤_}
+use Prim.Native.Nat.{ℕ, _<_, _≤_}
 use native.Mathlib.Omega.{arith}
 use native.Mathlib.Decide.{decLt}
 use mathlib.Core.List.{List}
-use mathlib.Core.Path.{_≡_, refl, sym, ap, subst, subst₂, _∙_}
+use mathlib.Core.Path.{_≡_, refl, sym, ap, subst, subst₂}
 use lib.ListN.{length, getD, take, length-take, List·getD-eq-default}
 use lib.Seq.{getD-take}
 use Rattle.model.specs.Machine.{Machine, paramAt, termAt}
@@ -19,7 +19,7 @@ use Rattle.model.specs.declared.Term.the-variants.{Lam, App, Op, Var, Num, Enc}
 use Rattle.model.specs.declared.TermRow.{TermRow}
 use Rattle.readings.specs.Nodes.{parameterOf}
 use Rattle.readings.proofs.Lines.{lines-typable}
-use Rattle.setup.specs.Descriptors.{machineOf, Describes, Described, rowQualifier, rowTyperow}
+use Rattle.setup.specs.Descriptors.{machineOf, rowQualifier, rowTyperow}
 use Rattle.rows.specs.Rows.{RowStands}
 use Rattle.solver.specs.Runs.{Fails, RowsOf, RowReady, Ran}
 use Rattle.solver.specs.declared.Run.the-variants.{Whole}
@@ -51,7 +51,7 @@ stands-weaker n i (Var p) h st = omega arith
 stands-weaker n i (Num x) h st = tt
 stands-weaker n i (Enc s x) h st = st
 
-module _ (m : Machine) (wf : WellFormed m) where
+module _ {m : Machine} (wf : WellFormed m) where
   -- A parameter's nodes are nodes, also past the end of the list.
   param-nodes : (p : ℕ) → (paramAt m p .qualifier < 71) × (paramAt m p .typerow < 64)
   param-nodes p = go (decLt p (length (m .params)))
@@ -71,17 +71,16 @@ module _ (m : Machine) (wf : WellFormed m) where
         type-node = param-nodes (parameterOf (termAt m i)) .1;
       }
 
-  pub row-ready : (params : List Param) (count : ℕ) (terms : List TermRow) (rows : ℕ) (kids : List ℕ) → RowsOf m params count terms rows → Described m kids →
-      (i : ℕ) → i < rows → RowReady params count terms kids i
-  row-ready params count terms rows kids of described i below =
+  pub row-ready : {params : List Param} {count : ℕ} {terms : List TermRow} {rows : ℕ} → RowsOf m params count terms rows →
+      (i : ℕ) → i < rows → RowReady params count terms i
+  row-ready of i below =
       let in-list = of .same-term i below .0 in
       subst₂
       (λ (term : Term) (ps : List Param).
-      RowStands i term (getD ps (parameterOf term) (record { qualifier = 0; typerow = 0 }) .qualifier) (getD ps (parameterOf term) (record { qualifier = 0; typerow = 0 }) .typerow)
-      × Describes kids i term (getD ps (parameterOf term) (record { qualifier = 0; typerow = 0 }) .qualifier) (getD ps (parameterOf term) (record { qualifier = 0; typerow = 0 }) .typerow))
+      RowStands i term (getD ps (parameterOf term) (record { qualifier = 0; typerow = 0 }) .qualifier) (getD ps (parameterOf term) (record { qualifier = 0; typerow = 0 }) .typerow))
       (of .same-term i below .1)
       (of .same-params)
-      (row-stands i in-list, described .rows i in-list)
+      (row-stands i in-list)
 
 -- A row below the count is in the machine's list.
 pub in-terms : (terms : List TermRow) (termcount row : ℕ) → length terms ≡ 256 → termcount ≤ 256 → row < termcount → row < length (take termcount terms)

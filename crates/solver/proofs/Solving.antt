@@ -1,11 +1,10 @@
 -- A state after all rows that is finite and within its bounds, with its words and kinds settled, is solved.
-use Prim.Native.Nat.{ℕ, _<_, _≤_}
+use Prim.Native.Nat.{ℕ, _<_}
 use native.Mathlib.Omega.{arith}
 use mathlib.Core.List.{List}
 use mathlib.Core.Path.{_≡_, sym, _∙_}
 use lib.ListN.{length}
 use Rattle.model.specs.Machine.{Machine}
-use Rattle.model.specs.Typing.{Ty}
 use Rattle.forest.specs.Forest.{Found}
 use Rattle.forest.proofs.Links.{find-root}
 use Rattle.graph.specs.Types.{kindAt, Parts}
@@ -14,7 +13,7 @@ use Rattle.qualifiers.specs.Classes.{Greatest}
 use Rattle.occurs.specs.Kinds.{Settled}
 use Rattle.occurs.proofs.Existence.{reading}
 use Rattle.occurs.proofs.Readings.{reads-int, reads-arrow}
-use Rattle.readings.specs.Nodes.{Solution, Solved}
+use Rattle.readings.specs.Nodes.{Solved}
 use Rattle.solver.specs.State.{After}
 
 module _ (m : Machine) (kids u k p b k′ : List ℕ) (w : ℕ → ℕ) (parts : Parts kids) (after : After m kids u k p b (length (m .terms)))

@@ -8,21 +8,24 @@ use lib.Dec.{ltb}
 use lib.ListN.{length}
 use borrow.Author.Tests.{lt-ltb, ltb-true}
 use Rattle.scheme.proofs.Order.{rand-greatest, reflexive}
-use Rattle.model.specs.Machine.{Machine, typeAt, paramAt, termAt}
-use Rattle.model.specs.WellFormed.{WellFormed}
+use Rattle.model.specs.Machine.{Machine, typeAt, paramAt}
+use Rattle.model.specs.WellFormed.{WellFormed, TypeStands}
 use Rattle.model.specs.Typing.{Ty, int, arrow, TypeAgrees}
 use Rattle.model.specs.declared.TypeForm.{TypeForm}
 use Rattle.model.specs.declared.TypeForm.the-variants.{Int, Any, Arrow}
-use Rattle.forest.specs.Forest.{up, Forest, Linked}
-use Rattle.graph.specs.Types.{kindAt, arrowOf, TypeClasses, Reads}
-use Rattle.qualifiers.specs.Classes.{boundAt, Classes, Bounded}
-use Rattle.readings.specs.Nodes.{assignment, free, Meets, FitsAll, Coded}
+use Rattle.forest.specs.Forest.{up, Linked}
+use Rattle.graph.specs.Types.{kindAt, arrowOf, TypeClasses}
+use Rattle.graph.specs.Unused.{Within}
+use Rattle.qualifiers.specs.Classes.{Classes}
+use Rattle.occurs.proofs.Readings.{by-less}
+use Rattle.readings.specs.Nodes.{assignment, free}
 use Rattle.readings.proofs.Rows.{meaning-node}
+use Rattle.rows.specs.Steps.{Ready}
 use Rattle.setup.specs.Descriptors.{Described}
 use Rattle.setup.specs.Started.{formKind, startKind, Started}
 use Rattle.solver.specs.State.{After}
 
-module _ (m : Machine) (wf : WellFormed m) (kids u k p b : List ℕ) (described : Described m kids) (started : Started m u k p b) where
+module _ {m : Machine} (wf : WellFormed m) {kids u k p b : List ℕ} (described : Described m kids) (started : Started m u k p b) where
   -- A node with a kind is a type row's.
   row-kind : (x : ℕ) → x < 327 → 1 ≤ kindAt k x → (x < length (m .types)) × (kindAt k x ≡ formKind x (typeAt m x))
   row-kind x h positive = go (ltb x (length (m .types))) refl
@@ -56,6 +59,24 @@ module _ (m : Machine) (wf : WellFormed m) (kids u k p b : List ℕ) (described 
       let e = rw same at (two (omega arith)) in
       cc (e, meaning-node m t v q, meaning-node m t v q′, parts .argument-qualifier, parts .argument, parts .result-qualifier, parts .result)
 
+  -- An arrow of a line names nodes below the first of the term rows'.
+  arrow-within : (x : ℕ) (form : TypeForm) → x < length (m .types) → typeAt m x ≡ form → 2 ≤ formKind x form → Within 64 kids (formKind x form - 2)
+  arrow-within x Int h is many = absurd (omega arith)
+  arrow-within x Any h is many = absurd (omega arith)
+  arrow-within x (Arrow q a q′ c) h is many =
+      let parts = described .types x h q a q′ c is in
+      let stands = subst (TypeStands x) is (wf .types-stand x h) in
+      let same : x + 2 - 2 ≡ x = omega arith in
+      let few = wf .types-fit in
+      rw same
+      record {
+        own = omega arith;
+        argument-node = omega (arith, parts .argument, stands .1);
+        result-node = omega (arith, parts .result, stands .3);
+        argument-qualifier = omega (arith, parts .argument-qualifier, stands .0);
+        result-qualifier = omega (arith, parts .result-qualifier, stands .2);
+      }
+
   classes-start : Classes p b
   classes-start =
       record {
@@ -85,6 +106,20 @@ module _ (m : Machine) (wf : WellFormed m) (kids u k p b : List ℕ) (described 
         size = started .sizes .1;
         bare = λ x h n. absurd (n (started .type-roots x h));
         kinds = λ x h. rw (started .kinds x h) (start-below x);
+      }
+
+  -- No term row has touched its nodes.
+  pub start-ready : Ready 0 kids u k p b
+  start-ready =
+      record {
+        types =
+            record {
+              own = λ x from h. started .type-roots x h;
+              unknown = λ x from h. by-less 0 (kindAt k x) (λ known. absurd (omega (arith, row-kind x h known .0, wf .types-fit))) (λ none. omega arith);
+              arrows = λ x h many. let at = row-kind x h (omega arith) in rw (at .1) (arrow-within x (typeAt m x) (at .0) refl (rw (at .1) at many));
+            };
+        qualifiers = record { own = λ x from h. started .qualifier-roots x h; unbound = λ x from h. started .bounds x h };
+        within = λ c h. rw (started .bounds c (omega arith)) (rand-greatest c h);
       }
 
   pub start-after : After m kids u k p b 0

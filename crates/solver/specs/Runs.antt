@@ -2,7 +2,6 @@
 use Prim.Native.Nat.{ℕ, _+_, _<_}
 use mathlib.Core.Bool.{true}
 use mathlib.Core.List.{List}
-use mathlib.Core.Logic.{_⊎_}
 use mathlib.Core.Path.{_≡_}
 use lib.ListN.{length, take}
 use Rattle.scheme.specs.Order.{atOrBelow}
@@ -15,15 +14,14 @@ use Rattle.model.specs.declared.Param.{Param}
 use Rattle.model.specs.declared.TermRow.{TermRow}
 use Rattle.graph.specs.Types.{Reads}
 use Rattle.graph.specs.Search.{Finite}
-use Rattle.qualifiers.specs.Classes.{boundAt, Constant, Bounded}
+use Rattle.qualifiers.specs.Classes.{boundAt}
 use Rattle.readings.specs.Nodes.{parameterOf}
-use Rattle.setup.specs.Descriptors.{Describes}
 use Rattle.rows.specs.Rows.{RowStands}
 use Rattle.report.specs.Codes.{Codes, wordOf, shapeOf}
 use Rattle.report.specs.Written.{Matches}
 use Rattle.solver.specs.State.{After}
 use Rattle.solver.specs.declared.Run.{Run}
-use Rattle.solver.specs.declared.Run.the-variants.{Whole, Stopped}
+use Rattle.solver.specs.declared.Run.the-variants.{Whole, Least, Stopped}
 use Rattle.solver.specs.declared.Answer.{Answer}
 use Rattle.solver.specs.declared.Answer.the-variants.{Placed, Refused}
 
@@ -31,23 +29,17 @@ use Rattle.solver.specs.declared.Answer.the-variants.{Placed, Refused}
 abbrev pub Fails : Machine → ℕ → ℕ → Type 0
 Fails m number k = ¬ Typable (whole six) m (k + 1) × Cause six m (k + 1) number
 
--- The number stays where every type is finite, and is 21 where there is no reading.
-abbrev pub Judges : List ℕ → List ℕ → List ℕ → ℕ → ℕ → Type 0
-Judges u k kids number r =
-    ((r ≡ number) × ((x : ℕ) → x < 327 → Finite u k kids x)) ⊎ ((r ≡ 21) × ((t : ℕ → Ty ℕ) (v : ℕ → ℕ) → Reads u k kids t v → ⊥))
+-- A run that ends at a row: with the number there where every type is finite, and with 21 where there is no reading.
+abbrev pub Halts : List ℕ → List ℕ → List ℕ → ℕ → ℕ → Run → Type 0
+Halts u k kids number row Whole = ⊥
+Halts u k kids number row (Least n r) = (n ≡ number) × (r ≡ row) × ((x : ℕ) → x < 327 → Finite u k kids x)
+Halts u k kids number row (Stopped n r) = (n ≡ 21) × (r ≡ row) × ((t : ℕ → Ty ℕ) (v : ℕ → ℕ) → Reads u k kids t v → ⊥)
 
--- The bounds are codes.
-pub record Bounds (b : List ℕ) : Type 0 where
-  pub size : length b ≡ 327
-  pub codes : (x : ℕ) → x < 327 → boundAt b x < 7
-
--- The tests at the end: every type finite and every bound met; or no reading; or every type finite and no reading within the bounds.
-abbrev pub Finishes : List ℕ → List ℕ → List ℕ → List ℕ → ℕ → Run → Type 0
-Finishes u k kids b rows Whole = ((x : ℕ) → x < 327 → Finite u k kids x) × ((c : ℕ) → c < 7 → atOrBelow c (boundAt b c) ≡ true)
-Finishes u k kids b rows (Stopped number row) =
-    (row + 1 ≡ rows)
-    × (((number ≡ 21) × ((t : ℕ → Ty ℕ) (v : ℕ → ℕ) → Reads u k kids t v → ⊥))
-    ⊎ ((number ≡ 23) × ((x : ℕ) → x < 327 → Finite u k kids x) × ((v : ℕ → ℕ) → Constant v → Bounded b v → ⊥)))
+-- The test at the end: every type is finite; or there is no reading.
+abbrev pub Finishes : List ℕ → List ℕ → List ℕ → ℕ → Run → Type 0
+Finishes u k kids rows Whole = (x : ℕ) → x < 327 → Finite u k kids x
+Finishes u k kids rows (Least n r) = ⊥
+Finishes u k kids rows (Stopped n r) = (n ≡ 21) × (r + 1 ≡ rows) × ((t : ℕ → Ty ℕ) (v : ℕ → ℕ) → Reads u k kids t v → ⊥)
 
 -- The state after all the rows asked for, with every type finite and every bound met.
 pub record Ended (m : Machine) (kids u k p b : List ℕ) (rows : ℕ) : Type 0 where
@@ -55,9 +47,10 @@ pub record Ended (m : Machine) (kids u k p b : List ℕ) (rows : ℕ) : Type 0 w
   pub finite : (x : ℕ) → x < 327 → Finite u k kids x
   pub within : (c : ℕ) → c < 7 → atOrBelow c (boundAt b c) ≡ true
 
--- A run over the first rows went through, or stopped at one of them.
+-- A run over the first rows went through, or stopped at the least row that leaves no typing, or at some such row.
 abbrev pub Ran : (m : Machine) (kids u k p b : List ℕ) (rows : ℕ) → Run → Type 0
 Ran m kids u k p b rows Whole = Typable (whole six) m rows × ((rows ≡ 0 → ⊥) → Ended m kids u k p b rows)
+Ran m kids u k p b rows (Least number row) = (row < rows) × Refusal six m number row
 Ran m kids u k p b rows (Stopped number row) = (row < rows) × Fails m number row
 
 -- The arrays hold the machine's parameters and its first rows.
@@ -66,16 +59,15 @@ pub record RowsOf (m : Machine) (params : List Param) (count : ℕ) (terms : Lis
   pub same-params : m .params ≡ take count params
   pub same-term : (i : ℕ) → i < rows → (i < length (m .terms)) × (termAt m i ≡ termIn terms i)
 
--- What each of the first rows asks of its nodes and its descriptor.
-abbrev pub RowReady : List Param → ℕ → List TermRow → List ℕ → ℕ → Type 0
-RowReady params count terms kids i =
+-- What each of the first rows asks of its nodes, and the place of the parameter that it names.
+abbrev pub RowReady : List Param → ℕ → List TermRow → ℕ → Type 0
+RowReady params count terms i =
     RowStands i (termIn terms i) (paramIn (take count params) (parameterOf (termIn terms i)) .qualifier) (paramIn (take count params) (parameterOf (termIn terms i)) .typerow)
-    × Describes kids i (termIn terms i) (paramIn (take count params) (parameterOf (termIn terms i)) .qualifier) (paramIn (take count params) (parameterOf (termIn terms i)) .typerow)
 
 -- A run from a state that stands for no rows yet, for every machine that the arrays hold.
-abbrev pub RunFrom : (params : List Param) (count : ℕ) (terms : List TermRow) (kids u₀ k₀ p₀ b₀ u k p b : List ℕ) (rows : ℕ) → Run → Type 0
-RunFrom params count terms kids u₀ k₀ p₀ b₀ u k p b rows r =
-    (m : Machine) → RowsOf m params count terms rows → After m kids u₀ k₀ p₀ b₀ 0 → Ran m kids u k p b rows r
+abbrev pub RunFrom : (params : List Param) (count : ℕ) (terms : List TermRow) (kids₀ u₀ k₀ p₀ b₀ kids u k p b : List ℕ) (rows : ℕ) → Run → Type 0
+RunFrom params count terms kids₀ u₀ k₀ p₀ b₀ kids u k p b rows r =
+    (m : Machine) → RowsOf m params count terms rows → After m kids₀ u₀ k₀ p₀ b₀ 0 → Ran m kids u k p b rows r
 
 -- Refused at the least row.
 abbrev pub Refuses : Machine → Answer → Type 0

@@ -11,17 +11,20 @@ ghost use lib.ListN.{take};
 ghost use Rattle.model.specs.Machine.{paramIn};
 ghost use Rattle.model.specs.WellFormed.{WellFormed};
 ghost use Rattle.graph.specs.Types.{Parts, TypeClasses};
+ghost use Rattle.graph.specs.Unused.{Unused};
 ghost use Rattle.qualifiers.specs.Classes.{Classes};
 ghost use Rattle.readings.specs.Nodes.{RowHolds, RowFits};
 ghost use Rattle.setup.specs.Descriptors.{machineOf, Describes, Described};
+ghost use Rattle.setup.specs.Passes.{FormsKept};
 ghost use Rattle.rows.specs.Rows.{RowStands};
-ghost use Rattle.rows.specs.Steps.{Stepped};
-ghost use Rattle.solver.specs.Runs.{Fails, Judges, Bounds, Finishes, RowReady, RunFrom, Ran, Refuses, Solves};
+ghost use Rattle.rows.specs.Steps.{Ready, Stepped};
+ghost use Rattle.solver.specs.Runs.{Fails, Halts, Finishes, RowReady, RunFrom, Ran, Refuses, Solves};
 ghost use Rattle.report.specs.Codes.{codesOf};
 
-// A run over the first rows: it went through, or it stopped with a refusal's number at a row.
+// A run over the first rows: it went through; or it stopped with a refusal's number at the least row that leaves no typing; or at some such row.
 pub enum Run {
     Whole,
+    Least(u8, usize),
     Stopped(u8, usize),
 }
 
@@ -57,47 +60,39 @@ fn take_row(
     left: &mut [u16; 704],
     right: &mut [u16; 704],
 ) -> Verdict
-    requires { ⌜ TypeClasses (now up) (now kind) ⌝ ∗ ⌜ Parts (now kids) ⌝ ∗ ⌜ Classes (now parent) (now bound) ⌝ ∗ ⌜ RowStands i term (param .qualifier) (param .typerow) × Describes (now kids) i term (param .qualifier) (param .typerow) ⌝ }
-    ensures { λ r. ⌜ Stepped (now (kids .entry)) (now (up .entry)) (now (kind .entry)) (now (parent .entry)) (now (bound .entry)) (now (up .exit)) (now (kind .exit)) (now (parent .exit)) (now (bound .exit)) (RowHolds i term (param .qualifier) (param .typerow)) (RowFits term) r ⌝ }
+    requires { ⌜ TypeClasses (now up) (now kind) ⌝ ∗ ⌜ Parts (now kids) ⌝ ∗ ⌜ Classes (now parent) (now bound) ⌝ ∗ ⌜ RowStands i term (param .qualifier) (param .typerow) × Describes (now kids) i term (param .qualifier) (param .typerow) ⌝ ∗ ⌜ Ready i (now kids) (now up) (now kind) (now parent) (now bound) ⌝ }
+    ensures { λ r. ⌜ Stepped i (now (kids .entry)) (now (up .entry)) (now (kind .entry)) (now (parent .entry)) (now (bound .entry)) (now (up .exit)) (now (kind .exit)) (now (parent .exit)) (now (bound .exit)) (RowHolds i term (param .qualifier) (param .typerow)) (RowFits term) r ⌝ }
 {
     let q = param.qualifier as usize;
     let ty = param.typerow as usize;
     rows::step(parent, bound, up, kind, kids, left, right, i, term, q, ty)
 }
 
-// The refusal's number where every type is finite, and 21 where one contains itself.
-fn judge(up: &[u16; 327], kind: &[u16; 327], kids: &[u16; 1280], number: u8) -> u8
-    requires { ⌜ TypeClasses (now up) (now kind) ⌝ ∗ ⌜ Parts (now kids) ⌝ }
-    ensures { λ r. ⌜ Judges (now (up .entry)) (now (kind .entry)) (now (kids .entry)) number r ⌝ }
+// The end of a run at a row that leaves no typing: where every type is finite the rows before it have one, and else a type contains itself.
+fn stop(up: &[u16; 327], kind: &[u16; 327], kids: &[u16; 1280], number: u8, row: usize) -> Run
+    requires { ⌜ TypeClasses (now up) (now kind) ⌝ ∗ ⌜ Parts (now kids) ⌝ ∗ ⌜ (row < 256) × Unused (row + 1 + 64) (now up) (now kind) (now kids) ⌝ }
+    ensures { λ r. ⌜ Halts (now (up .entry)) (now (kind .entry)) (now (kids .entry)) number row r ⌝ }
 {
-    if occurs::all_finite(up, kind, kids) {
-        return number;
+    if occurs::all_finite(up, kind, kids, row + 1 + 64) {
+        Run::Least(number, row)
+    } else {
+        Run::Stopped(21, row)
     }
-    21
 }
 
-// The tests at the end of a run over `rows` rows, at least one.
-fn finish(
-    bound: &[u8; 327],
-    up: &[u16; 327],
-    kind: &[u16; 327],
-    kids: &[u16; 1280],
-    rows: usize,
-) -> Run
-    requires { ⌜ TypeClasses (now up) (now kind) ⌝ ∗ ⌜ Parts (now kids) ⌝ ∗ ⌜ Bounds (now bound) ⌝ ∗ ⌜ 0 < rows ⌝ }
-    ensures { λ r. ⌜ Finishes (now (up .entry)) (now (kind .entry)) (now (kids .entry)) (now (bound .entry)) rows r ⌝ }
+// The test at the end of a run over `rows` rows, at least one.
+fn finish(up: &[u16; 327], kind: &[u16; 327], kids: &[u16; 1280], rows: usize) -> Run
+    requires { ⌜ TypeClasses (now up) (now kind) ⌝ ∗ ⌜ Parts (now kids) ⌝ ∗ ⌜ (0 < rows) × (rows ≤ 256) × Unused (rows + 64) (now up) (now kind) (now kids) ⌝ }
+    ensures { λ r. ⌜ Finishes (now (up .entry)) (now (kind .entry)) (now (kids .entry)) rows r ⌝ }
 {
-    if !occurs::all_finite(up, kind, kids) {
-        return Run::Stopped(21, rows - 1);
-    }
-    if qualifiers::within_bounds(bound) {
+    if occurs::all_finite(up, kind, kids, rows + 64) {
         Run::Whole
     } else {
-        Run::Stopped(23, rows - 1)
+        Run::Stopped(21, rows - 1)
     }
 }
 
-// Takes the first `rows` rows in turn into a state that stands for none yet.
+// Takes the first `rows` rows in turn into a state that stands for none yet. A row's descriptor is written when its turn comes.
 fn take_rows(
     params: [Param; 64],
     paramcount: usize,
@@ -107,12 +102,12 @@ fn take_rows(
     bound: &mut [u8; 327],
     up: &mut [u16; 327],
     kind: &mut [u16; 327],
-    kids: &[u16; 1280],
+    kids: &mut [u16; 1280],
     left: &mut [u16; 704],
     right: &mut [u16; 704],
 ) -> Run
-    requires { ⌜ (0 < rows) × (rows ≤ 256) ⌝ ∗ ⌜ TypeClasses (now up) (now kind) ⌝ ∗ ⌜ Parts (now kids) ⌝ ∗ ⌜ Classes (now parent) (now bound) ⌝ ∗ ⌜ ((i : ℕ) → i < rows → RowReady params paramcount terms (now kids) i) ⌝ }
-    ensures { λ r. ⌜ RunFrom params paramcount terms (now (kids .entry)) (now (up .entry)) (now (kind .entry)) (now (parent .entry)) (now (bound .entry)) (now (up .exit)) (now (kind .exit)) (now (parent .exit)) (now (bound .exit)) rows r ⌝ }
+    requires { ⌜ (0 < rows) × (rows ≤ 256) × ((i : ℕ) → i < rows → RowReady params paramcount terms i) ⌝ ∗ ⌜ TypeClasses (now up) (now kind) ⌝ ∗ ⌜ Parts (now kids) ⌝ ∗ ⌜ Classes (now parent) (now bound) ⌝ ∗ ⌜ Ready 0 (now kids) (now up) (now kind) (now parent) (now bound) ⌝ }
+    ensures { λ r. ⌜ RunFrom params paramcount terms (now (kids .entry)) (now (up .entry)) (now (kind .entry)) (now (parent .entry)) (now (bound .entry)) (now (kids .exit)) (now (up .exit)) (now (kind .exit)) (now (parent .exit)) (now (bound .exit)) rows r ⌝ ∗ ⌜ Parts (now (kids .exit)) × FormsKept (now (kids .entry)) (now (kids .exit)) ⌝ }
 {
     let mut i: usize = 0;
     while i < rows {
@@ -122,24 +117,26 @@ fn take_rows(
         // read here: to pass the array on would copy it for every row
         let named = params[p];
         let param = standing(named, p, paramcount);
+        setup::describe_term(term, i, param, kids);
         match take_row(param, term, i, parent, bound, up, kind, kids, left, right) {
             Verdict::Fine => {
                 i += 1;
             }
             Verdict::Shapes => {
+                return stop(up, kind, kids, 21, i);
+            }
+            Verdict::Lost => {
                 return Run::Stopped(21, i);
             }
             Verdict::Apart => {
-                let number = judge(up, kind, kids, 22);
-                return Run::Stopped(number, i);
+                return stop(up, kind, kids, 22, i);
             }
             Verdict::Broken => {
-                let number = judge(up, kind, kids, 23);
-                return Run::Stopped(number, i);
+                return stop(up, kind, kids, 23, i);
             }
         }
     }
-    finish(bound, up, kind, kids, rows)
+    finish(up, kind, kids, rows)
 }
 
 // Runs over the first `rows` rows from the start.
@@ -155,12 +152,12 @@ fn run_rows(
     bound: &mut [u8; 327],
     up: &mut [u16; 327],
     kind: &mut [u16; 327],
-    kids: &[u16; 1280],
+    kids: &mut [u16; 1280],
     left: &mut [u16; 704],
     right: &mut [u16; 704],
 ) -> Run
     requires { ⌜ WellFormed (machineOf types typecount params paramcount terms termcount) ⌝ ∗ ⌜ (typecount ≤ 64) × (paramcount ≤ 64) × (termcount ≤ 256) × (rows ≤ termcount) ⌝ ∗ ⌜ Described (machineOf types typecount params paramcount terms termcount) (now kids) ⌝ }
-    ensures { λ r. ⌜ Ran (machineOf types typecount params paramcount terms termcount) (now (kids .entry)) (now (up .exit)) (now (kind .exit)) (now (parent .exit)) (now (bound .exit)) rows r ⌝ }
+    ensures { λ r. ⌜ Ran (machineOf types typecount params paramcount terms termcount) (now (kids .exit)) (now (up .exit)) (now (kind .exit)) (now (parent .exit)) (now (bound .exit)) rows r ⌝ ∗ ⌜ Described (machineOf types typecount params paramcount terms termcount) (now (kids .exit)) ⌝ }
 {
     if rows == 0 {
         return Run::Whole;
@@ -195,7 +192,7 @@ fn least(
     bound: &mut [u8; 327],
     up: &mut [u16; 327],
     kind: &mut [u16; 327],
-    kids: &[u16; 1280],
+    kids: &mut [u16; 1280],
     left: &mut [u16; 704],
     right: &mut [u16; 704],
 ) -> Answer
@@ -223,6 +220,9 @@ fn least(
         ) {
             Run::Whole => {
                 return Answer::Refused(number, row);
+            }
+            Run::Least(other, least) => {
+                return Answer::Refused(other, least);
             }
             Run::Stopped(earlier, before) => {
                 number = earlier;
@@ -256,15 +256,7 @@ pub fn solve(
     let mut kids = [0u16; 1280];
     let mut left = [0u16; 704];
     let mut right = [0u16; 704];
-    setup::describe(
-        types,
-        typecount,
-        params,
-        paramcount,
-        terms,
-        termcount,
-        &mut kids,
-    );
+    setup::describe_forms(types, typecount, &mut kids);
     match run_rows(
         types,
         typecount,
@@ -277,7 +269,7 @@ pub fn solve(
         &mut bound,
         &mut up,
         &mut kind,
-        &kids,
+        &mut kids,
         &mut left,
         &mut right,
     ) {
@@ -300,6 +292,7 @@ pub fn solve(
             );
             Answer::Placed
         }
+        Run::Least(number, row) => Answer::Refused(number, row),
         Run::Stopped(number, row) => least(
             types,
             typecount,
@@ -313,7 +306,7 @@ pub fn solve(
             &mut bound,
             &mut up,
             &mut kind,
-            &kids,
+            &mut kids,
             &mut left,
             &mut right,
         ),

@@ -5,7 +5,7 @@ use mathlib.Core.List.{List}
 use mathlib.Core.Path.{_≡_, refl, ap}
 use lib.ListN.{length, getD, set}
 use lib.Seq.{getD-set-same, getD-set-other}
-use Rattle.forest.specs.Pairs.{Alike, Pairs}
+use Rattle.forest.specs.Pairs.{Alike, Pairs, PairsBelow}
 use Rattle.forest.proofs.Links.{by-eq}
 use Rattle.graph.specs.Types.{argumentQualifier, resultQualifier}
 use Rattle.unification.specs.Noted.{Noted, NotedArrows}
@@ -20,19 +20,23 @@ noted-by {left} {right} {n = n} {x} {y} hl hr el er =
     }
 
 module _ {left right left′ right′ : List ℕ} {n x y n′ : ℕ} (noted : Noted left right left′ right′ n x y n′) where
-  pub noted-pairs : n < 704 → x < 327 → y < 327 → Pairs left right n → Pairs left′ right′ n′
-  noted-pairs room hx hy pairs =
+  pub noted-below : {m : ℕ} → x < m → y < m → PairsBelow m left right n → PairsBelow m left′ right′ n′
+  noted-below hx hy pairs =
       record {
-        fits = omega (arith, noted .next);
-        left-node = λ i h.
+        left-below = λ i h.
             by-eq i n
             (λ e. omega (arith, ap (λ (j : ℕ). getD left′ j 0) e, noted .newest .0))
-            (λ m. let below : i < n = omega (arith, noted .next) in omega (arith, noted .earlier i below .0, pairs .left-node i below));
-        right-node = λ i h.
+            (λ m. let below : i < n = omega (arith, noted .next) in omega (arith, noted .earlier i below .0, pairs .left-below i below));
+        right-below = λ i h.
             by-eq i n
             (λ e. omega (arith, ap (λ (j : ℕ). getD right′ j 0) e, noted .newest .1))
-            (λ m. let below : i < n = omega (arith, noted .next) in omega (arith, noted .earlier i below .1, pairs .right-node i below));
+            (λ m. let below : i < n = omega (arith, noted .next) in omega (arith, noted .earlier i below .1, pairs .right-below i below));
       }
+
+  pub noted-pairs : n < 704 → x < 327 → y < 327 → Pairs left right n → Pairs left′ right′ n′
+  noted-pairs room hx hy pairs =
+      let below = noted-below hx hy (record { left-below = pairs .left-node; right-below = pairs .right-node }) in
+      record { fits = omega (arith, noted .next); left-node = below .left-below; right-node = below .right-below }
 
   pub noted-into : {A : Type 0} (v : ℕ → A) → Alike left right n v → v x ≡ v y → Alike left′ right′ n′ v
   noted-into v alike same i h =
@@ -53,6 +57,9 @@ noted-arrows room is-x is-y one is-x′ is-y′ two =
     record {
       next = omega (arith, one .next, two .next);
       pairs = λ pairs. noted-pairs two (omega (arith, one .next)) (is-x′ .1) (is-y′ .1) (noted-pairs one (omega arith) (is-x .1) (is-y .1) pairs);
+      below = λ m d e pairs.
+          noted-below two (omega (arith, is-x′ .0, d .result-qualifier)) (omega (arith, is-y′ .0, e .result-qualifier))
+          (noted-below one (omega (arith, is-x .0, d .argument-qualifier)) (omega (arith, is-y .0, e .argument-qualifier)) pairs);
       into = λ v alike argument result. noted-into two v (noted-into one v alike (cc (is-x .0, is-y .0))) (cc (is-x′ .0, is-y′ .0));
       outof = λ v alike.
           let result = noted-outof two v alike in

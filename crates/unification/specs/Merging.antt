@@ -1,11 +1,13 @@
 -- What is left of an equation between two nodes when their classes are merged.
-use Prim.Native.Nat.{ℕ, _<_, _≤_}
+use Prim.Native.Nat.{ℕ, _+_, _<_, _≤_}
+use mathlib.Core.Bool.{Bool, true, false}
 use mathlib.Core.List.{List}
 use mathlib.Core.Path.{_≡_}
 use lib.ListN.{set}
 use Rattle.model.specs.Typing.{Ty}
 use Rattle.forest.specs.Forest.{up, Found}
-use Rattle.graph.specs.Types.{TypeClasses, Reads, roots, arrowOf, Same, Clashes}
+use Rattle.graph.specs.Types.{kindAt, TypeClasses, Reads, roots, arrowOf, Same, IsInt, Clashes, Intact}
+use Rattle.graph.specs.Unused.{Unused}
 use Rattle.unification.specs.declared.Rest.{Rest}
 use Rattle.unification.specs.declared.Rest.the-variants.{Nothing, Arrows, Clash}
 
@@ -34,8 +36,22 @@ pub record Reduced (kids p k p′ k′ : List ℕ) (E F : Equation) : Type 0 whe
   pub into : (t : ℕ → Ty ℕ) (v : ℕ → ℕ) → Reads p k kids t v → E t v → Reads p′ k′ kids t v × F t v
   pub outof : (t : ℕ → Ty ℕ) (v : ℕ → ℕ) → Reads p′ k′ kids t v → F t v → Reads p k kids t v × E t v
 
+-- Descriptor d is that of an arrow in use.
+abbrev pub InUse : List ℕ → ℕ → Type 0
+InUse k d = (x : ℕ) × (x < 327) × (kindAt k x ≡ d + 2)
+
 -- Nothing is left; or the equation of two arrows, with a root less; or no reading meets the equation.
 abbrev pub Merged : (p k p′ k′ : List ℕ) (a b : ℕ) → Rest → Type 0
 Merged p k p′ k′ a b Nothing = (kids : List ℕ) → Reduced kids p k p′ k′ (Same a b) Always
-Merged p k p′ k′ a b (Arrows d e) = (roots p′ < roots p) × (d < 320) × (e < 320) × ((kids : List ℕ) → Reduced kids p k p′ k′ (Same a b) (SameArrow kids d e))
-Merged p k p′ k′ a b Clash = (kids : List ℕ) → Clashes kids p k (Same a b)
+Merged p k p′ k′ a b (Arrows d e) = (roots p′ < roots p) × ((d < 320) × InUse k d) × ((e < 320) × InUse k e) × ((kids : List ℕ) → Reduced kids p k p′ k′ (Same a b) (SameArrow kids d e))
+Merged p k p′ k′ a b Clash = (kids : List ℕ) → Clashes kids p k (Same a b) × Intact kids p k p′ k′
+
+-- What was done to two nodes stayed below m, if they lie there.
+abbrev pub Local : (p k p′ k′ : List ℕ) (a b : ℕ) → Type 0
+Local p k p′ k′ a b = (m : ℕ) (kids : List ℕ) → a < m → b < m → Unused m p k kids → Unused m p′ k′ kids
+
+-- A node is INT from now on; or no reading makes it INT, and the types are as they were.
+pub record MadeInt (p k p′ k′ : List ℕ) (x : ℕ) (r : Bool) : Type 0 where
+  pub made : r ≡ true → (kids : List ℕ) → Reduced kids p k p′ k′ (IsInt x) Always
+  pub clash : r ≡ false → (kids : List ℕ) → Clashes kids p k (IsInt x) × Intact kids p k p′ k′
+  pub stays : Local p k p′ k′ x x

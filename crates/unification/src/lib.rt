@@ -1,18 +1,20 @@
 // Equations between type nodes, made to hold by unification.
 ghost use mathlib.Core.Path.{_≡_};
-ghost use Prim.Native.Nat.{_+_, _*_, _<_, _≤_};
+ghost use Prim.Native.Nat.{ℕ, _+_, _*_, _<_, _≤_};
 ghost use lib.ListN.{length, set};
 ghost use Rattle.forest.specs.Forest.{Forest};
 ghost use Rattle.forest.specs.Pairs.{Pairs};
-ghost use Rattle.graph.specs.Types.{Parts, TypeClasses, Room, roots, Same, IsInt, IsArrow};
-ghost use Rattle.unification.specs.Answers.{Answered};
-ghost use Rattle.unification.specs.Merging.{TwoRoots, SameArrow, Merged};
+ghost use Rattle.graph.specs.Types.{Parts, TypeClasses, Room, roots, Same, IsArrow};
+ghost use Rattle.graph.specs.Unused.{Within};
+ghost use Rattle.unification.specs.Answers.{Answered, Confined, losing};
+ghost use Rattle.unification.specs.Merging.{TwoRoots, SameArrow, Merged, Local, MadeInt};
 ghost use Rattle.unification.specs.Noted.{Noted, NotedArrows};
 
-// How an equation of types went: the number of pairs of qualifiers noted by now, or no way.
+// How an equation of types went: the number of pairs of qualifiers noted by now; or no way, and the types are as they were; or no way.
 pub enum Joining {
     Pairs(usize),
     Clash,
+    Lost,
 }
 
 // What is left of an equation once two classes are one: nothing, the equation of the arrows of two descriptors, or no way.
@@ -53,7 +55,7 @@ fn link(up: &mut [u16; 327], kind: &mut [u16; 327], low: usize, high: usize, k: 
 // Makes the classes of two roots one, unless one is INT and the other an arrow.
 fn merge_roots(up: &mut [u16; 327], kind: &mut [u16; 327], low: usize, high: usize) -> Rest
     requires { ⌜ TypeClasses (now up) (now kind) ⌝ ∗ ⌜ TwoRoots (now up) low high ⌝ }
-    ensures { λ r. ⌜ Merged (now (up .entry)) (now (kind .entry)) (now (up .exit)) (now (kind .exit)) low high r ⌝ }
+    ensures { λ r. ⌜ Merged (now (up .entry)) (now (kind .entry)) (now (up .exit)) (now (kind .exit)) low high r ⌝ ∗ ⌜ Local (now (up .entry)) (now (kind .entry)) (now (up .exit)) (now (kind .exit)) low high ⌝ }
 {
     let k = kind[low];
     let l = kind[high];
@@ -82,7 +84,7 @@ fn merge_roots(up: &mut [u16; 327], kind: &mut [u16; 327], low: usize, high: usi
 // Makes the classes of two nodes one. The smaller root stays a root.
 fn merge(up: &mut [u16; 327], kind: &mut [u16; 327], a: usize, b: usize) -> Rest
     requires { ⌜ TypeClasses (now up) (now kind) ⌝ ∗ ⌜ (a < 327) × (b < 327) ⌝ }
-    ensures { λ r. ⌜ Merged (now (up .entry)) (now (kind .entry)) (now (up .exit)) (now (kind .exit)) a b r ⌝ }
+    ensures { λ r. ⌜ Merged (now (up .entry)) (now (kind .entry)) (now (up .exit)) (now (kind .exit)) a b r ⌝ ∗ ⌜ Local (now (up .entry)) (now (kind .entry)) (now (up .exit)) (now (kind .exit)) a b ⌝ }
 {
     let x = forest::root(up, a);
     let y = forest::root(up, b);
@@ -116,6 +118,17 @@ fn note_arrows(
     note(left, right, one, x, y)
 }
 
+// The answer for two arrows that were merged before their parts: the descriptor of one is gone.
+fn merged_before(parts: Joining) -> Joining
+    ensures { λ r. ⌜ r ≡ losing parts ⌝ }
+{
+    match parts {
+        Joining::Pairs(n) => Joining::Pairs(n),
+        Joining::Clash => Joining::Lost,
+        Joining::Lost => Joining::Lost,
+    }
+}
+
 // Makes the types of two nodes one, and notes the qualifiers that this makes one.
 pub fn unify(
     up: &mut [u16; 327],
@@ -128,11 +141,11 @@ pub fn unify(
     b: usize,
 ) -> Joining
     requires { ⌜ TypeClasses (now up) (now kind) ⌝ ∗ ⌜ Parts (now kids) ⌝ ∗ ⌜ Room (now up) (now left) (now right) n ⌝ ∗ ⌜ (a < 327) × (b < 327) ⌝ }
-    ensures { λ r. ⌜ Answered (now (kids .entry)) (now (up .entry)) (now (kind .entry)) (now (left .entry)) (now (right .entry)) (now (up .exit)) (now (kind .exit)) (now (left .exit)) (now (right .exit)) n (Same a b) r ⌝ }
+    ensures { λ r. ⌜ Answered (now (kids .entry)) (now (up .entry)) (now (kind .entry)) (now (left .entry)) (now (right .entry)) (now (up .exit)) (now (kind .exit)) (now (left .exit)) (now (right .exit)) n (Same a b) r ⌝ ∗ ⌜ ((m : ℕ) → a < m → b < m → Confined m (now (kids .entry)) (now (up .entry)) (now (kind .entry)) (now (left .entry)) (now (right .entry)) (now (up .exit)) (now (kind .exit)) (now (left .exit)) (now (right .exit)) n r) ⌝ }
 {
     match merge(up, kind, a, b) {
         Rest::Nothing => Joining::Pairs(n),
-        Rest::Arrows(d, e) => unify_arrows(up, kind, kids, left, right, n, d, e),
+        Rest::Arrows(d, e) => merged_before(unify_arrows(up, kind, kids, left, right, n, d, e)),
         Rest::Clash => Joining::Clash,
     }
 }
@@ -149,7 +162,7 @@ fn unify_arrows(
     e: usize,
 ) -> Joining
     requires { ⌜ TypeClasses (now up) (now kind) ⌝ ∗ ⌜ Parts (now kids) ⌝ ∗ ⌜ Pairs (now left) (now right) n ⌝ ∗ ⌜ (n + 2 + 2 * roots (now up) ≤ 704) × (d < 320) × (e < 320) ⌝ }
-    ensures { λ r. ⌜ Answered (now (kids .entry)) (now (up .entry)) (now (kind .entry)) (now (left .entry)) (now (right .entry)) (now (up .exit)) (now (kind .exit)) (now (left .exit)) (now (right .exit)) n (SameArrow (now (kids .entry)) d e) r ⌝ }
+    ensures { λ r. ⌜ Answered (now (kids .entry)) (now (up .entry)) (now (kind .entry)) (now (left .entry)) (now (right .entry)) (now (up .exit)) (now (kind .exit)) (now (left .exit)) (now (right .exit)) n (SameArrow (now (kids .entry)) d e) r ⌝ ∗ ⌜ ((m : ℕ) → Within m (now (kids .entry)) d → Within m (now (kids .entry)) e → Confined m (now (kids .entry)) (now (up .entry)) (now (kind .entry)) (now (left .entry)) (now (right .entry)) (now (up .exit)) (now (kind .exit)) (now (left .exit)) (now (right .exit)) n r) ⌝ }
 {
     let both = note_arrows(kids, left, right, n, d, e);
     let a = graph::part(kids, d, 1);
@@ -161,32 +174,22 @@ fn unify_arrows(
             unify(up, kind, kids, left, right, m, x, y)
         }
         Joining::Clash => Joining::Clash,
+        Joining::Lost => Joining::Lost,
     }
 }
 
-// Makes a node INT.
-pub fn make_int(
-    up: &mut [u16; 327],
-    kind: &mut [u16; 327],
-    kids: &[u16; 1280],
-    left: &mut [u16; 704],
-    right: &mut [u16; 704],
-    n: usize,
-    x: usize,
-) -> Joining
-    requires { ⌜ TypeClasses (now up) (now kind) ⌝ ∗ ⌜ Parts (now kids) ⌝ ∗ ⌜ Room (now up) (now left) (now right) n ⌝ ∗ ⌜ x < 327 ⌝ }
-    ensures { λ r. ⌜ Answered (now (kids .entry)) (now (up .entry)) (now (kind .entry)) (now (left .entry)) (now (right .entry)) (now (up .exit)) (now (kind .exit)) (now (left .exit)) (now (right .exit)) n (IsInt x) r ⌝ }
+// Makes a node INT. False: it is an arrow.
+pub fn make_int(up: &mut [u16; 327], kind: &mut [u16; 327], x: usize) -> bool
+    requires { ⌜ TypeClasses (now up) (now kind) ⌝ ∗ ⌜ x < 327 ⌝ }
+    ensures { λ r. ⌜ MadeInt (now (up .entry)) (now (kind .entry)) (now (up .exit)) (now (kind .exit)) x r ⌝ }
 {
     let r = forest::root(up, x);
     let k = kind[r];
     if k == 0 {
         kind[r] = 1;
-        return Joining::Pairs(n);
+        return true;
     }
-    if k == 1 {
-        return Joining::Pairs(n);
-    }
-    Joining::Clash
+    k == 1
 }
 
 // Makes a node the arrow of descriptor d: an unknown one becomes it, an arrow is unified with it part by part.
@@ -201,7 +204,7 @@ pub fn make_arrow(
     d: usize,
 ) -> Joining
     requires { ⌜ TypeClasses (now up) (now kind) ⌝ ∗ ⌜ Parts (now kids) ⌝ ∗ ⌜ Room (now up) (now left) (now right) n ⌝ ∗ ⌜ (n + 2 ≤ 50) × (x < 327) × (d < 320) ⌝ }
-    ensures { λ r. ⌜ Answered (now (kids .entry)) (now (up .entry)) (now (kind .entry)) (now (left .entry)) (now (right .entry)) (now (up .exit)) (now (kind .exit)) (now (left .exit)) (now (right .exit)) n (IsArrow (now (kids .entry)) x d) r ⌝ }
+    ensures { λ r. ⌜ Answered (now (kids .entry)) (now (up .entry)) (now (kind .entry)) (now (left .entry)) (now (right .entry)) (now (up .exit)) (now (kind .exit)) (now (left .exit)) (now (right .exit)) n (IsArrow (now (kids .entry)) x d) r ⌝ ∗ ⌜ ((m : ℕ) → x < m → Within m (now (kids .entry)) d → Confined m (now (kids .entry)) (now (up .entry)) (now (kind .entry)) (now (left .entry)) (now (right .entry)) (now (up .exit)) (now (kind .exit)) (now (left .exit)) (now (right .exit)) n r) ⌝ }
 {
     let r = forest::root(up, x);
     let k = kind[r];

@@ -1,71 +1,152 @@
--- `rows::step`: types, then qualifiers, then bounds; each way out is one law over the lists before and after.
-use borrow.Author.Tests.{not-true, not-false}
-use Rattle.rows.proofs.Steps.{step-cyclic, step-apart, step-extended}
+-- `rows::step`: each kind of row by its own law.
+use native.Mathlib.Omega.{arith}
+use Rattle.rows.proofs.Rows.{row-int, row-same, row-arrow}
 use borrow.Author.Needs.{needs}
 use Rattle.rows.proofs.step.Statement.{statement}
 use Rattle.rows.proofs.step.Tie as tie
 
-calls-for-search-requires : tie.Need-calls-for-search-requires
-calls-for-search-requires c κs = search needs
-
-type-row-requires : tie.Need-type-row-requires
-type-row-requires c κs = search needs
-
-enum-known-n : tie.Need-enum-known-n
-enum-known-n c = search needs
-
 enum-told : tie.Need-enum-told
 enum-told c = search needs
 
-returns : tie.Need-returns
-returns c = rw (c .enum-told .given .1) at (c .before .before .type-row .ensures)
+cast-known-row : tie.Need-cast-known-row
+cast-known-row c = search needs
 
-stays-finite-requires : tie.Need-stays-finite-requires
-stays-finite-requires c κs =
-    let joined = rw (c .before .before .before .n .given .1) at (c .before .before .before .before .before .type-row .ensures) in
-    (joined .classes, c .before .before .before .before .before .before .before .before .before .before .before .before .before .pre .1 .0)
+add-known-row : tie.Need-add-known-row
+add-known-row c = search needs
+
+known-row-requires : tie.Need-known-row-requires
+known-row-requires c κs = search needs
+
+enum-known-term : tie.Need-enum-known-term
+enum-known-term c = search needs
+
+cast-app-row : tie.Need-cast-app-row
+cast-app-row c = search needs
+
+cast-app-row-2 : tie.Need-cast-app-row-2
+cast-app-row-2 c = search needs
+
+app-row-requires : tie.Need-app-row-requires
+app-row-requires c κs =
+    let a = c .before .before .before .before .before .before .before .before .before in
+    let row = a .pre .1 .1 .1 .0 in
+    let is = c .before .before .before .before .before .before .before .term .given .1 in
+    let stands = rw is at (row .0 .stands) in
+    (a .pre .0, (a .pre .1 .0, (a .pre .1 .1 .0, ((row .0 .in-list, stands .0, stands .1, rw is at (row .1)), a .pre .1 .1 .1 .1))))
+
+enum-known-term-2 : tie.Need-enum-known-term-2
+enum-known-term-2 c = search needs
+
+cast-op-row : tie.Need-cast-op-row
+cast-op-row c = search needs
+
+cast-op-row-2 : tie.Need-cast-op-row-2
+cast-op-row-2 c = search needs
+
+op-row-requires : tie.Need-op-row-requires
+op-row-requires c κs =
+    let a = c .before .before .before .before .before .before .before in
+    let row = a .pre .1 .1 .1 .0 in
+    let stands = rw (c .before .before .before .before .before .term2 .given .1) at (row .0 .stands) in
+    (a .pre .0, (a .pre .1 .1 .0, ((row .0 .in-list, stands .1, stands .2), a .pre .1 .1 .1 .1 .qualifiers)))
+
+enum-told-2 : tie.Need-enum-told-2
+enum-told-2 c = search needs
+
+add-put-under-root : tie.Need-add-put-under-root
+add-put-under-root c = search needs
+
+put-under-root-requires : tie.Need-put-under-root-requires
+put-under-root-requires c κs = search needs
+
+add-put-under-root-2 : tie.Need-add-put-under-root-2
+add-put-under-root-2 c = search needs
+
+put-under-root-requires-2 : tie.Need-put-under-root-requires-2
+put-under-root-requires-2 c κs = search needs
+
+enum-told-3 : tie.Need-enum-told-3
+enum-told-3 c = search needs
+
+known-row-requires-2 : tie.Need-known-row-requires-2
+known-row-requires-2 c κs = search needs
+
+enum-known-term-3 : tie.Need-enum-known-term-3
+enum-known-term-3 c = search needs
+
+cast-known-row-2 : tie.Need-cast-known-row-2
+cast-known-row-2 c = search needs
+
+known-row-requires-3 : tie.Need-known-row-requires-3
+known-row-requires-3 c κs = search needs
+
+returns : tie.Need-returns
+returns c =
+    let a = c .before .before .before .before .before in
+    let row = a .pre .1 .1 .1 .0 in
+    let is = c .before .before .before .enum-told .given .1 in
+    let stands = rw is at (row .0 .stands) in
+    rw is
+    (row-arrow (row .0 .in-list) (a .pre .0) (a .pre .1 .1 .0) (a .pre .1 .1 .1 .1) (c .known-row .ensures) (rw is at (row .1)) (omega (arith, row .0 .qualifier-node)) (omega (arith, row .0 .type-node)) (omega (arith, stands .1)) (omega (arith, stands .1)))
 
 returns-2 : tie.Need-returns-2
-returns-2 c =
-    let joined = rw (c .before .before .before .before .before .n .given .1) at (c .before .before .before .before .before .before .before .type-row .ensures) in
-    step-cyclic joined (c .before .stays-finite .ensures (not-true _ (c .if1 .taken)))
-
-unite-all-requires : tie.Need-unite-all-requires
-unite-all-requires c κs =
-    let joined = rw (c .before .before .before .before .before .before .before .before .before .n .given .1) at (c .before .before .before .before .before .before .before .before .before .before .before .type-row .ensures) in
-    (c .before .before .before .before .before .before .before .before .before .before .before .before .before .before .before .before .before .before .before .pre .1 .1 .0, joined .room .pairs)
+returns-2 c = rw (c .before .before .before .before .before .before .before .before .term .given .1) (c .app-row .ensures)
 
 returns-3 : tie.Need-returns-3
 returns-3 c =
-    let joined = rw (c .before .before .before .before .before .before .before .before .before .before .before .n .given .1) at (c .before .before .before .before .before .before .before .before .before .before .before .before .before .type-row .ensures) in
-    step-apart joined (c .before .unite-all .ensures) (not-true _ (c .if2 .taken))
-
-bound-row-requires : tie.Need-bound-row-requires
-bound-row-requires c κs = (c .before .before .before .unite-all .ensures .classes, c .before .before .before .before .before .before .before .before .before .before .before .before .before .before .before .before .before .before .before .before .before .before .before .pre .1 .1 .1 .0)
+    let a = c .before .before .before .before .before .before .before .before in
+    let row = a .pre .1 .1 .1 .0 in
+    rw (c .before .before .before .before .before .before .term2 .given .1) (c .op-row .ensures _ (a .pre .1 .1 .1 .1))
 
 returns-4 : tie.Need-returns-4
 returns-4 c =
-    let joined = rw (c .before .before .before .before .before .before .before .before .before .before .before .before .before .before .before .n .given .1) at (c .before .before .before .before .before .before .before .before .before .before .before .before .before .before .before .before .before .type-row .ensures) in
-    step-extended joined (c .before .before .before .before .before .unite-all .ensures) (not-false _ (c .before .before .before .before .if2 .left)) (c .before .bound-row .ensures)
+    let a = c .before .before .before .before .before .before in
+    let row = a .pre .1 .1 .1 .0 in
+    rw (c .before .before .before .before .enum-told2 .given .1) (row-same (row .0 .in-list) (a .pre .0) (a .pre .1 .1 .0) (a .pre .1 .1 .1 .1) (omega (arith, row .0 .qualifier-node)) (row .0 .type-node) (c .before .before .put-under-root .ensures) (c .put-under-root2 .ensures))
 
 returns-5 : tie.Need-returns-5
 returns-5 c =
-    let joined = rw (c .before .before .before .before .before .before .before .before .before .before .before .before .before .before .before .n .given .1) at (c .before .before .before .before .before .before .before .before .before .before .before .before .before .before .before .before .before .type-row .ensures) in
-    (step-extended joined (c .before .before .before .before .before .unite-all .ensures) (not-false _ (c .before .before .before .before .if2 .left)) (c .before .bound-row .ensures), c .before .bound-row .ensures .broken (c .if3 .left))
+    let a = c .before .before .before .before .before in
+    let row = a .pre .1 .1 .1 .0 in
+    rw (c .before .before .before .enum-told3 .given .1) (row-int (row .0 .in-list) (a .pre .0) (a .pre .1 .1 .0) (a .pre .1 .1 .1 .1) (omega arith) (c .known-row2 .ensures))
+
+returns-6 : tie.Need-returns-6
+returns-6 c =
+    let a = c .before .before .before .before .before .before in
+    let row = a .pre .1 .1 .1 .0 in
+    let is = c .before .before .before .before .term3 .given .1 in
+    let stands = rw is at (row .0 .stands) in
+    rw is (row-int (row .0 .in-list) (a .pre .0) (a .pre .1 .1 .0) (a .pre .1 .1 .1 .1) (omega (arith, stands .1)) (c .known-row3 .ensures))
 
 pub step-spec : {M : Type 1} → statement M
 step-spec =
     tie.close
     (tie.spec
-    calls-for-search-requires
-    type-row-requires
-    enum-known-n
     enum-told
+    cast-known-row
+    add-known-row
+    known-row-requires
+    enum-known-term
+    cast-app-row
+    cast-app-row-2
+    app-row-requires
+    enum-known-term-2
+    cast-op-row
+    cast-op-row-2
+    op-row-requires
+    enum-told-2
+    add-put-under-root
+    put-under-root-requires
+    add-put-under-root-2
+    put-under-root-requires-2
+    enum-told-3
+    known-row-requires-2
+    enum-known-term-3
+    cast-known-row-2
+    known-row-requires-3
     returns
-    stays-finite-requires
     returns-2
-    unite-all-requires
     returns-3
-    bound-row-requires
     returns-4
-    returns-5)
+    returns-5
+    returns-6)

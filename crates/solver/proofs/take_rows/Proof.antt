@@ -1,32 +1,46 @@
 -- `solver::take_rows`: before each turn the state is the one after the rows taken, for every machine that the arrays hold.
-use Prim.Native.Nat.{ℕ, _-_, _≤_}
+use Prim.Native.Nat.{ℕ, _-_, _<_, _≤_}
 use mathlib.Core.Path.{_≡_, refl, subst}
 use native.Mathlib.Omega.{arith}
+use lib.ListN.{take}
 use borrow.Author.Needs.{needs}
 use denote.Ref.{now}
-use Rattle.model.specs.Machine.{Machine, termIn}
-use Rattle.graph.specs.Types.{TypeClasses}
+use Rattle.model.specs.Machine.{Machine, paramIn, termIn}
+use Rattle.readings.specs.Nodes.{parameterOf}
+use Rattle.graph.specs.Types.{Parts, TypeClasses}
 use Rattle.qualifiers.specs.Classes.{Classes}
-use Rattle.setup.proofs.Descriptors.{names-place}
+use Rattle.setup.specs.Passes.{FormsKept}
+use Rattle.setup.proofs.Descriptors.{names-place, has-nodes, forms-kept-none, forms-kept-more}
+use Rattle.rows.specs.Rows.{RowStands}
+use Rattle.rows.specs.Steps.{Ready}
 use Rattle.solver.specs.State.{After}
-use Rattle.solver.specs.Runs.{RowsOf}
-use Rattle.solver.proofs.Exits.{went-on, stopped-shapes, stopped-apart, stopped-broken, ran-out}
+use Rattle.solver.specs.Runs.{RowsOf, RowReady}
+use Rattle.solver.proofs.Descriptors.{ready-kept, after-kept}
+use Rattle.solver.proofs.Exits.{Turn, went-on, stopped-shapes, stopped-lost, stopped-apart, stopped-broken, ran-out}
 use Rattle.solver.proofs.take_rows.Statement.{statement}
 use Rattle.solver.proofs.take_rows.Tie as tie
 
 abbrev Inv-loop : tie.InvT-loop
-Inv-loop paramcount rows parent₀ bound₀ up₀ kind₀ kids left₀ right₀ params terms i₀ parent bound up kind left right i =
+Inv-loop paramcount rows parent₀ bound₀ up₀ kind₀ kids₀ left₀ right₀ params terms i₀ parent bound up kind kids left right i =
     (i ≤ rows)
     × TypeClasses up kind
     × Classes parent bound
-    × ((m : Machine) → RowsOf m params paramcount terms rows → After m kids up₀ kind₀ parent₀ bound₀ 0 → After m kids up kind parent bound i)
+    × (Parts kids × FormsKept kids₀ kids)
+    × Ready i kids up kind parent bound
+    × ((m : Machine) → RowsOf m params paramcount terms rows → After m kids₀ up₀ kind₀ parent₀ bound₀ 0 → After m kids up kind parent bound i)
 
 abbrev μ-loop : tie.MeasureT-loop
-μ-loop paramcount rows parent₀ bound₀ up₀ kind₀ kids left₀ right₀ params terms i₀ parent bound up kind left right i =
+μ-loop paramcount rows parent₀ bound₀ up₀ kind₀ kids₀ left₀ right₀ params terms i₀ parent bound up kind kids left right i =
     rows - i
 
 loop-holds : tie.Need-loop-holds Inv-loop μ-loop
-loop-holds c = (omega arith, c .pre .1 .0, c .pre .1 .1 .1 .0, λ m of after. after)
+loop-holds c =
+    let ready = c .pre .1 .1 .1 in
+    (omega arith, c .pre .1 .0, ready .0, (c .pre .1 .1 .0, forms-kept-none (now (c .args .kids))), ready .1, λ m of after. after)
+
+-- Row i stands, in its turn.
+row-stands : (c : tie.In-loop Inv-loop μ-loop) → RowReady (c .before .before .args .t1) (c .before .before .args .paramcount) (c .before .before .args .t3) (c .before .loop .i)
+row-stands c = c .before .before .pre .0 .2 (c .before .loop .i) (c .loop-test .taken)
 
 mul-row : tie.Need-mul-row Inv-loop μ-loop
 mul-row c = omega arith
@@ -37,27 +51,72 @@ array-copy-out-row c = omega arith
 parameter-requires : tie.Need-parameter-requires Inv-loop μ-loop
 parameter-requires c κs = search needs
 
-mul-named : tie.Need-mul-named Inv-loop μ-loop
-mul-named c =
+-- The parameter that the row names has a place.
+in-params : (c : tie.After-parameter Inv-loop μ-loop) → c .parameter .result < 64
+in-params c =
     let head = c .before .before .before in
-    let ready = head .before .pre .1 .1 .1 .1 (head .loop .i) (c .before .before .loop-test .taken) in
-    omega (arith, c .parameter .ensures, names-place 64 (head .loop .i) (termIn (head .before .args .t3) (head .loop .i)) (omega arith) (ready .0 .stands))
+    rw (c .parameter .ensures) (names-place 64 (head .loop .i) (termIn (head .before .args .t3) (head .loop .i)) (omega arith) (row-stands (c .before .before) .stands))
+
+mul-named : tie.Need-mul-named Inv-loop μ-loop
+mul-named c = omega (arith, in-params c)
 
 array-copy-out-named : tie.Need-array-copy-out-named Inv-loop μ-loop
-array-copy-out-named c =
-    let head = c .before .before .before in
-    let ready = head .before .pre .1 .1 .1 .1 (head .loop .i) (c .before .before .loop-test .taken) in
-    omega (arith, c .parameter .ensures, names-place 64 (head .loop .i) (termIn (head .before .args .t3) (head .loop .i)) (omega arith) (ready .0 .stands))
+array-copy-out-named c = in-params c
 
 standing-requires : tie.Need-standing-requires Inv-loop μ-loop
 standing-requires c κs = search needs
 
+-- The parameter at hand is the one that the row names, so that the row stands with it.
+named : (c : tie.After-standing Inv-loop μ-loop) →
+    let head = c .before .before .before .before .before in
+    let args = head .before .args in
+    c .standing .result ≡ paramIn (take (args .paramcount) (args .t1)) (parameterOf (termIn (args .t3) (head .loop .i)))
+named c = rw (c .before .before .parameter .ensures) at (c .standing .ensures (c .before .before .before .before .before .before .args .t1) refl)
+
+stands : (c : tie.After-standing Inv-loop μ-loop) →
+    let head = c .before .before .before .before .before in
+    RowStands (head .loop .i) (termIn (head .before .args .t3) (head .loop .i)) (c .standing .result .qualifier) (c .standing .result .typerow)
+stands c = rw (named c) (row-stands (c .before .before .before .before))
+
+describe-term-requires : tie.Need-describe-term-requires Inv-loop μ-loop
+describe-term-requires c κs =
+    let row = stands (c .before) in
+    let head = c .before .before .before .before .before .before in
+    (head .loop .inv .3 .0, (row .in-list, has-nodes (c .before .standing .result) (head .loop .i) (termIn (head .before .args .t3) (head .loop .i)) (row .stands) (row .qualifier-node) (row .type-node)))
+
+-- The turn of row i, once its descriptor is written.
+turn : (c : tie.After-describe-term Inv-loop μ-loop) →
+    let head = c .before .before .before .before .before .before .before in
+    let args = head .before .args in
+    Turn (args .t1) (args .paramcount) (args .t3) (args .rows)
+    (now (args .kids)) (now (args .up)) (now (args .kind)) (now (args .parent)) (now (args .bound))
+    (c .describe-term .last .1 .1 .1 .0) (head .loop .up) (head .loop .kind) (head .loop .parent) (head .loop .bound) (head .loop .i) (c .before .before .standing .result)
+turn c =
+    let inside = c .before .before .before .before .before .before in
+    let inv = inside .before .loop .inv in
+    let only = c .describe-term .ensures .0 in
+    record {
+      below = inside .loop-test .taken;
+      named = named (c .before .before);
+      parts = only .parts;
+      ready = ready-kept only (inv .4);
+      after = λ m of start. after-kept only (inv .4) (inv .5 m of start);
+    }
+
+-- No descriptor of a type row has changed since the start.
+kept : (c : tie.After-describe-term Inv-loop μ-loop) →
+    let head = c .before .before .before .before .before .before .before in
+    Parts (c .describe-term .last .1 .1 .1 .0) × FormsKept (now (head .before .args .kids)) (c .describe-term .last .1 .1 .1 .0)
+kept c =
+    let head = c .before .before .before .before .before .before .before in
+    let only = c .describe-term .ensures .0 in
+    (only .parts, forms-kept-more (now (head .before .args .kids)) (head .loop .kids) (c .describe-term .last .1 .1 .1 .0) (head .loop .i) (head .loop .inv .3 .1) only)
+
 take-row-requires : tie.Need-take-row-requires Inv-loop μ-loop
 take-row-requires c κs =
-    let head = c .before .before .before .before .before .before .before .before .before .before .before in
-    let begin = head .before in
-    let is = rw (c .before .before .before .before .before .before .before .before .parameter .ensures) at (c .before .before .before .before .before .before .standing .ensures (begin .args .t1) refl) in
-    (head .loop .inv .1, (begin .pre .1 .1 .0, (head .loop .inv .2, rw is (begin .pre .1 .1 .1 .1 (head .loop .i) (c .before .before .before .before .before .before .before .before .before .before .loop-test .taken)))))
+    let at = c .before .before .before .before .before .before .before in
+    let inv = at .before .before .before .before .before .before .before .loop .inv in
+    (inv .1, (turn at .parts, (inv .2, ((stands (at .before .before), at .describe-term .ensures .1), turn at .ready))))
 
 enum-told : tie.Need-enum-told Inv-loop μ-loop
 enum-told c = search needs
@@ -70,58 +129,90 @@ loop-less c = omega arith
 
 loop-again : tie.Need-loop-again Inv-loop μ-loop
 loop-again c =
-    let head = c .before .before .before .before .before .before .before .before .before .before .before .before .before .before in
-    let begin = head .before in
+    let at = c .before .before .before .before .before .before .before .before .before .before in
     let step = rw (c .enum-told .given .1) at (c .before .before .take-row .ensures) in
-    let is = rw (c .before .before .before .before .before .before .before .before .before .before .before .parameter .ensures) at (c .before .before .before .before .before .before .before .before .before .standing .ensures (begin .args .t1) refl) in
-    (omega (arith, c .before .before .before .before .before .before .before .before .before .before .before .before .before .loop-test .taken), step .types, step .classes, λ m of after. went-on _ _ _ _ m of (now (begin .args .kids)) _ _ _ _ (begin .pre .1 .1 .0) (head .loop .i) (c .before .before .before .before .before .before .before .before .before .before .before .before .before .loop-test .taken) (head .loop .inv .3 m of after) _ is _ _ _ _ step)
+    (omega (arith, turn at .below), step .0 .types, step .0 .classes, kept at, step .1, went-on (turn at) _ _ _ _ step)
 
 enum-told-2 : tie.Need-enum-told-2 Inv-loop μ-loop
 enum-told-2 c = search needs
 
+stop-requires : tie.Need-stop-requires Inv-loop μ-loop
+stop-requires c κs =
+    let at = c .before .before .before .before .before .before .before .before .before .before .before .before .before in
+    let step = rw (c .before .before .before .enum-told2 .given .1) at (c .before .before .before .before .before .take-row .ensures) in
+    (step .1 .classes, (turn at .parts, (stands (at .before .before) .in-list, step .2)))
+
 returns : tie.Need-returns Inv-loop μ-loop
 returns c =
-    let head = c .before .before .before .before .before .before .before .before .before .before .before .before .before .before in
-    let begin = head .before in
-    let step = rw (c .enum-told2 .given .1) at (c .before .before .take-row .ensures) in
-    let is = rw (c .before .before .before .before .before .before .before .before .before .before .before .parameter .ensures) at (c .before .before .before .before .before .before .before .before .before .standing .ensures (begin .args .t1) refl) in
-    λ m of after. stopped-shapes _ _ _ _ m of (now (begin .args .kids)) _ _ _ _ (begin .pre .1 .1 .0) (head .loop .i) (c .before .before .before .before .before .before .before .before .before .before .before .before .before .loop-test .taken) (head .loop .inv .3 m of after) _ is step
+    let at = c .before .before .before .before .before .before .before .before .before .before .before .before .before .before in
+    let step = rw (c .before .before .before .before .enum-told2 .given .1) at (c .before .before .before .before .before .before .take-row .ensures) in
+    (stopped-shapes (turn at) _ _ _ _ (c .stop .result) step (c .stop .ensures), kept at)
 
 enum-told-3 : tie.Need-enum-told-3 Inv-loop μ-loop
 enum-told-3 c = search needs
 
-judge-requires : tie.Need-judge-requires Inv-loop μ-loop
-judge-requires c κs = ((rw (c .before .before .enum-told3 .given .1) at (c .before .before .before .before .take-row .ensures)) .types, c .before .before .before .before .before .before .before .before .before .before .before .before .before .before .before .before .before .pre .1 .1 .0)
-
 returns-2 : tie.Need-returns-2 Inv-loop μ-loop
 returns-2 c =
-    let head = c .before .before .before .before .before .before .before .before .before .before .before .before .before .before .before .before .before in
-    let begin = head .before in
-    let step = rw (c .before .before .before .enum-told3 .given .1) at (c .before .before .before .before .before .take-row .ensures) in
-    let is = rw (c .before .before .before .before .before .before .before .before .before .before .before .before .before .before .parameter .ensures) at (c .before .before .before .before .before .before .before .before .before .before .before .before .standing .ensures (begin .args .t1) refl) in
-    λ m of after. stopped-apart _ _ _ _ m of (now (begin .args .kids)) _ _ _ _ (begin .pre .1 .1 .0) (head .loop .i) (c .before .before .before .before .before .before .before .before .before .before .before .before .before .before .before .before .loop-test .taken) (head .loop .inv .3 m of after) _ is _ _ _ step (c .judge .ensures)
+    let at = c .before .before .before .before .before .before .before .before .before .before in
+    let step = rw (c .enum-told3 .given .1) at (c .before .before .take-row .ensures) in
+    (stopped-lost (turn at) step, kept at)
 
 enum-told-4 : tie.Need-enum-told-4 Inv-loop μ-loop
 enum-told-4 c = search needs
 
-judge-requires-2 : tie.Need-judge-requires-2 Inv-loop μ-loop
-judge-requires-2 c κs = ((rw (c .before .before .enum-told4 .given .1) at (c .before .before .before .before .take-row .ensures)) .0 .types, c .before .before .before .before .before .before .before .before .before .before .before .before .before .before .before .before .before .pre .1 .1 .0)
+stop-requires-2 : tie.Need-stop-requires-2 Inv-loop μ-loop
+stop-requires-2 c κs =
+    let at = c .before .before .before .before .before .before .before .before .before .before .before .before .before in
+    let step = rw (c .before .before .before .enum-told4 .given .1) at (c .before .before .before .before .before .take-row .ensures) in
+    (step .0 .types, (turn at .parts, (stands (at .before .before) .in-list, step .1)))
 
 returns-3 : tie.Need-returns-3 Inv-loop μ-loop
 returns-3 c =
-    let head = c .before .before .before .before .before .before .before .before .before .before .before .before .before .before .before .before .before in
-    let begin = head .before in
-    let step = rw (c .before .before .before .enum-told4 .given .1) at (c .before .before .before .before .before .take-row .ensures) in
-    let is = rw (c .before .before .before .before .before .before .before .before .before .before .before .before .before .before .parameter .ensures) at (c .before .before .before .before .before .before .before .before .before .before .before .before .standing .ensures (begin .args .t1) refl) in
-    λ m of after. stopped-broken _ _ _ _ m of (now (begin .args .kids)) _ _ _ _ (begin .pre .1 .1 .0) (head .loop .i) (c .before .before .before .before .before .before .before .before .before .before .before .before .before .before .before .before .loop-test .taken) (head .loop .inv .3 m of after) _ is _ _ _ _ _ step (c .judge2 .ensures)
+    let at = c .before .before .before .before .before .before .before .before .before .before .before .before .before .before in
+    let step = rw (c .before .before .before .before .enum-told4 .given .1) at (c .before .before .before .before .before .before .take-row .ensures) in
+    (stopped-apart (turn at) _ _ _ _ (c .stop2 .result) step (c .stop2 .ensures), kept at)
 
-finish-requires : tie.Need-finish-requires Inv-loop μ-loop
-finish-requires c κs = (c .before .before .before .before .loop .inv .1, (c .before .before .before .before .before .pre .1 .1 .0, (record { size = c .before .before .before .before .loop .inv .2 .size; codes = c .before .before .before .before .loop .inv .2 .codes }, c .before .before .before .before .before .pre .0 .0)))
+enum-told-5 : tie.Need-enum-told-5 Inv-loop μ-loop
+enum-told-5 c = search needs
+
+stop-requires-3 : tie.Need-stop-requires-3 Inv-loop μ-loop
+stop-requires-3 c κs =
+    let at = c .before .before .before .before .before .before .before .before .before .before .before .before .before in
+    let step = rw (c .before .before .before .enum-told5 .given .1) at (c .before .before .before .before .before .take-row .ensures) in
+    (step .0 .types, (turn at .parts, (stands (at .before .before) .in-list, step .1)))
 
 returns-4 : tie.Need-returns-4 Inv-loop μ-loop
-returns-4 c = λ m of after.
-    let end : c .before .before .before .before .before .loop .i ≡ c .before .before .before .before .before .before .args .rows = omega arith in
-    ran-out _ _ _ _ m of (now (c .before .before .before .before .before .before .args .kids)) _ _ _ _ (c .before .before .before .before .before .before .pre .1 .1 .0) (subst (λ (n : ℕ). After m (now (c .before .before .before .before .before .before .args .kids)) (c .before .before .before .before .before .loop .up) (c .before .before .before .before .before .loop .kind) (c .before .before .before .before .before .loop .parent) (c .before .before .before .before .before .loop .bound) n) end (c .before .before .before .before .before .loop .inv .3 m of after)) (c .finish .result) (c .finish .ensures)
+returns-4 c =
+    let at = c .before .before .before .before .before .before .before .before .before .before .before .before .before .before in
+    let step = rw (c .before .before .before .before .enum-told5 .given .1) at (c .before .before .before .before .before .before .take-row .ensures) in
+    (stopped-broken (turn at) _ _ _ _ (c .stop3 .result) step (c .stop3 .ensures), kept at)
+
+-- After the loop all rows are taken.
+ready-all : (c : tie.After-loop Inv-loop μ-loop) →
+    let end = c .before .loop in
+    (end .i ≡ c .before .before .args .rows) × Ready (c .before .before .args .rows) (end .kids) (end .up) (end .kind) (end .parent) (end .bound)
+ready-all c =
+    let end = c .before .loop in
+    let all : end .i ≡ c .before .before .args .rows = omega (arith, c .loop-test .left, end .inv .0) in
+    (all, subst (λ (n : ℕ). Ready n (end .kids) (end .up) (end .kind) (end .parent) (end .bound)) all (end .inv .4))
+
+finish-requires : tie.Need-finish-requires Inv-loop μ-loop
+finish-requires c κs =
+    let loop = c .before .before .before in
+    let inv = loop .before .loop .inv in
+    let pre = loop .before .before .pre in
+    (inv .1, (inv .3 .0, (pre .0 .0, pre .0 .1, ready-all loop .1 .types)))
+
+returns-5 : tie.Need-returns-5 Inv-loop μ-loop
+returns-5 c =
+    let loop = c .before .before .before .before in
+    let end = loop .before .loop in
+    let inv = end .inv in (
+      λ m of start.
+          let after = subst (After m (end .kids) (end .up) (end .kind) (end .parent) (end .bound)) (ready-all loop .0) (inv .5 m of start) in
+          ran-out of (inv .3 .0) (ready-all loop .1) after (c .finish .result) (c .finish .ensures),
+      inv .3,
+    )
 
 pub take-rows-spec : {M : Type 1} → statement M
 take-rows-spec =
@@ -136,18 +227,22 @@ take-rows-spec =
     mul-named
     array-copy-out-named
     standing-requires
+    describe-term-requires
     take-row-requires
     enum-told
     add-i
     loop-less
     loop-again
     enum-told-2
+    stop-requires
     returns
     enum-told-3
-    judge-requires
     returns-2
     enum-told-4
-    judge-requires-2
+    stop-requires-2
     returns-3
+    enum-told-5
+    stop-requires-3
+    returns-4
     finish-requires
-    returns-4)
+    returns-5)

@@ -2,8 +2,8 @@
 use borrow.Author.Needs.{needs}
 use native.Mathlib.Omega.{arith}
 use Rattle.unification.proofs.Classes.{roots-most}
-use Rattle.unification.proofs.Merging.{at-root}
-use Rattle.unification.proofs.Answering.{joined, answered-after, made-arrow, known-arrow, clash-arrow}
+use Rattle.unification.proofs.Merging.{at-root, at-intact}
+use Rattle.unification.proofs.Answering.{joined, answered-after, made-arrow, arrow-local, known-arrow, clash-arrow}
 use Rattle.unification.proofs.make_arrow.Statement.{statement}
 use Rattle.unification.proofs.make_arrow.Tie as tie
 
@@ -31,12 +31,14 @@ element-write-kind c = search needs
 returns : tie.Need-returns
 returns c =
     let a = c .before .before .before .before in
-    joined (a .pre .1 .1 .0) (made-arrow (at-root (a .pre .0) (omega arith) (c .before .before .root .ensures)) (a .args .d) (omega arith) (c .if1 .taken))
+    let at = at-root (a .pre .0) (omega arith) (c .before .before .root .ensures) in
+    (joined (a .pre .1 .1 .0) (made-arrow at (a .args .d) (omega arith) (c .if1 .taken)), λ m h within unused pairs. (arrow-local at (a .args .d) h within unused, pairs))
 
 returns-2 : tie.Need-returns-2
 returns-2 c =
     let a = c .before .before .before .before .before in
-    clash-arrow (at-root (a .pre .0) (omega arith) (c .before .before .before .root .ensures)) (a .args .d) (c .if2 .taken)
+    let at = at-root (a .pre .0) (omega arith) (c .before .before .before .root .ensures) in
+    ((clash-arrow at (a .args .d) (c .if2 .taken), at-intact at), λ m h within unused pairs. (at .local h unused, tt))
 
 cast-unify-arrows : tie.Need-cast-unify-arrows
 cast-unify-arrows c =
@@ -59,8 +61,10 @@ returns-3 : tie.Need-returns-3
 returns-3 c =
     let b = c .before .before .before .before .before .before .before .before in
     let a = b .before .before in
-    answered-after _ _ _ _ _ _ _ (c .unify-arrows .result)
-    (known-arrow (at-root (a .pre .0) (omega arith) (b .root .ensures)) (a .args .d) (omega arith)) (c .unify-arrows .ensures)
+    let at = at-root (a .pre .0) (omega arith) (b .root .ensures) in (
+      answered-after (known-arrow at (a .args .d) (omega arith)) _ _ _ _ _ _ _ (at-intact at .outof) (c .unify-arrows .result) (c .unify-arrows .ensures .0),
+      λ m h within unused pairs. c .unify-arrows .ensures .1 m (unused .arrows (b .root .result) (at .node) (omega arith)) within (at .local h unused) pairs,
+    )
 
 pub make-arrow-spec : {M : Type 1} → statement M
 make-arrow-spec =
