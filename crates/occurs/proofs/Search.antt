@@ -1,7 +1,7 @@
 -- Each exit of the search answers rightly, and each step keeps the meaning of the marks.
 use Prim.Native.Nat.{ℕ, _-_, _<_, _≤_}
 use native.Mathlib.Omega.{arith}
-use mathlib.Core.Bool.{true, false}
+use mathlib.Core.Bool.{Bool, true, false}
 use mathlib.Core.List.{List}
 use mathlib.Core.Path.{_≡_, refl, sym, ap, subst, _∙_}
 use lib.Dec.{eqb}
@@ -14,7 +14,7 @@ use Rattle.forest.proofs.Links.{by-eq}
 use Rattle.graph.specs.Types.{kindAt, argument, result, TypeClasses, Reads}
 use Rattle.graph.specs.Search.{Finite, under, leaf, node, Searched}
 use Rattle.graph.specs.Unused.{Unused}
-use Rattle.occurs.specs.Marks.{markAt, unseen, size, Way, Kept, Walked, Between}
+use Rattle.occurs.specs.Marks.{markAt, unseen, size, Way, NewArrow, Kept, Walked, Between}
 use Rattle.graph.proofs.Tally.{tally-less}
 use Rattle.occurs.proofs.Readings.{by-less, TypePart, reads-root, smaller-part}
 use Rattle.occurs.proofs.Marks.{kept-none, marked-finite}
@@ -52,9 +52,26 @@ module _ {p k kids : List ℕ} where
     contains-itself e =
         walked-none (λ t v reads. omega (arith, way .larger r root-below e t v reads, ap size (reads-root reads found)))
 
+    -- The search goes on to the root, which has the node's type in every reading.
+    pub way-root : Way p k kids m r
+    way-root =
+        record {
+          sound = way .sound;
+          larger = λ y l e t v reads. omega (arith, way .larger y l e t v reads, ap size (reads-root reads found));
+        }
+
+    pub new-arrow : 2 ≤ kindAt k r → markAt m r ≡ 0 → NewArrow p k m r
+    new-arrow many e = record { node = root-below; root = found .root; arrow = many; unmet = e }
+
+    -- The answer for the root is the node's.
+    pub walked-root : {m′ : List ℕ} {b : Bool} → Walked p k kids m m′ r b → Walked p k kids m m′ x b
+    walked-root w =
+        record { finite = λ e. finite-reach (found .reached) (w .finite e); kept = w .kept; none = w .none }
+
+  module _ {m : List ℕ} {r : ℕ} (new : NewArrow p k m r) (way : Way p k kids m r) where
     -- The root is put on the way.
     entered-at : markAt (set m r 1) r ≡ 1
-    entered-at = getD-set-same m r 1 0 (omega (arith, root-below, way .sound .size))
+    entered-at = getD-set-same m r 1 0 (omega (arith, new .node, way .sound .size))
 
     entered-other : (y : ℕ) → (y ≡ r → ⊥) → markAt (set m r 1) y ≡ markAt m y
     entered-other y d = getD-set-other m r y 1 0 d
@@ -73,32 +90,30 @@ module _ {p k kids : List ℕ} where
 
     module _ {m′ : List ℕ} (kept : Kept p k kids (set m r 1) m′) where
       -- The search goes on to a part, whose type is smaller than the root's in every reading.
-      pub way-on : (c : ℕ) → 2 ≤ kindAt k r → TypePart kids (kindAt k r - 2) c → Way p k kids m′ c
-      way-on c many part =
+      pub way-on : (c : ℕ) → TypePart kids (kindAt k r - 2) c → Way p k kids m′ c
+      way-on c part =
           record {
             sound = kept .sound;
             larger =
                 λ y l e t v reads.
                 let before : markAt m′ y ≡ markAt (set m r 1) y = kept .same y l (omega arith) in
-                let less : size (t c) < size (t r) = smaller-part reads r c root-below many part in
+                let less : size (t c) < size (t r) = smaller-part reads r c (new .node) (new .arrow) part in
                 by-eq y r
                 (λ d. omega (arith, ap (λ (z : ℕ). size (t z)) d))
-                (λ d.
-                omega
-                (arith, way .larger y l (sym (entered-other y d) ∙ sym before ∙ e) t v reads, ap size (reads-root reads found)));
+                (λ d. omega (arith, way .larger y l (sym (entered-other y d) ∙ sym before ∙ e) t v reads));
           }
 
-      pub fewer-unseen : markAt m r ≡ 0 → unseen m′ < unseen m
+      pub fewer-unseen : unseen m′ < unseen m
       unfolding unseen
-      fewer-unseen e =
+      fewer-unseen =
           tally-less
           (λ y. eqb (markAt m′ y) 0)
           (λ y. eqb (markAt m y) 0)
           327
           r
-          root-below
-          (ne-eqb (markAt m′ r) 0 (λ z. omega (arith, entered-at, kept .same r root-below (omega arith))))
-          (eq-eqb (markAt m r) 0 e)
+          (new .node)
+          (ne-eqb (markAt m′ r) 0 (λ z. omega (arith, entered-at, kept .same r (new .node) (omega arith))))
+          (eq-eqb (markAt m r) 0 (new .unmet))
           (λ y l z.
           let zero-mark = eqb-true (markAt m′ y) 0 z in
           let before = kept .same y l (omega arith) in
@@ -108,19 +123,18 @@ module _ {p k kids : List ℕ} where
 
       -- Both parts are finite.
       pub finished :
-          2 ≤ kindAt k r →
           {a b : ℕ} →
           a ≡ argument kids (kindAt k r - 2) →
           b ≡ result kids (kindAt k r - 2) →
           Finite p k kids a →
           Finite p k kids b →
-          Walked p k kids m (set m′ r 2) x true
-      finished many d e f g =
+          Walked p k kids m (set m′ r 2) r true
+      finished d e f g =
           let finite : Finite p k kids r =
-          node root-below (found .root) many (subst (Finite p k kids) d f) (subst (Finite p k kids) e g) in
+          node (new .node) (new .root) (new .arrow) (subst (Finite p k kids) d f) (subst (Finite p k kids) e g) in
           walked
-          (finite-reach (found .reached) finite)
-          (marked-finite m m′ r root-below finite (kept .sound) (λ y l d e. kept .same y l e ∙ entered-other y d))
+          finite
+          (marked-finite m m′ r (new .node) finite (kept .sound) (λ y l d e. kept .same y l e ∙ entered-other y d))
 
   -- All nodes below are finite: a node that is no root or no arrow is, and an arrow whose parts are below.
   module _ {m : List ℕ} {x : ℕ} (classes : TypeClasses p k) (h : x < 327) (between : Between p k kids m x) where

@@ -6,7 +6,8 @@ use mathlib.Core.Path.{_≡_}
 use lib.Dec.{eqb}
 use lib.ListN.{length, getD}
 use Rattle.model.specs.Typing.{Ty, int, arrow}
-use Rattle.graph.specs.Types.{Reads, tally}
+use Rattle.forest.specs.Forest.{up}
+use Rattle.graph.specs.Types.{kindAt, Reads, tally}
 use Rattle.graph.specs.Search.{Finite}
 use Rattle.occurs.specs.Kinds.{NoneIf}
 
@@ -32,6 +33,13 @@ pub record Way (p k kids m : List ℕ) (x : ℕ) : Type 0 where
   pub sound : Sound p k kids m
   pub larger :
       (y : ℕ) → y < 327 → markAt m y ≡ 1 → (t : ℕ → Ty ℕ) (v : ℕ → ℕ) → Reads p k kids t v → size (t x) < size (t y)
+
+-- A root that is an arrow and was not met yet.
+pub record NewArrow (p k m : List ℕ) (x : ℕ) : Type 0 where
+  pub node : x < 327
+  pub root : up p x ≡ x
+  pub arrow : 2 ≤ kindAt k x
+  pub unmet : markAt m x ≡ 0
 
 -- The marks where it leaves the node: a mark is as before, or finite.
 pub record Kept (p k kids m m′ : List ℕ) : Type 0 where

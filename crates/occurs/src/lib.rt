@@ -4,7 +4,7 @@ ghost use Rattle.graph.specs.Types.{Parts, TypeClasses};
 ghost use Rattle.graph.specs.Search.{Searched};
 ghost use Rattle.graph.specs.Unused.{Unused};
 ghost use Rattle.occurs.specs.Kinds.{Settled, NoneIf};
-ghost use Rattle.occurs.specs.Marks.{Way, Walked, Between};
+ghost use Rattle.occurs.specs.Marks.{NewArrow, Way, Walked, Between};
 
 // The marks of nodes, by which no arrow is walked twice.
 const UNSEEN: u8 = 0;
@@ -13,38 +13,27 @@ const ON_THE_WAY: u8 = 1;
 
 const FINITE: u8 = 2;
 
-// Whether a type is finite: its root is no arrow, or both qualified types of the arrow are finite.
+// Whether the type of a root that is an arrow, and that the search has not met, is finite: both its qualified types are.
 fn finite_type(
     up: &[u16; 327],
     kind: &[u16; 327],
     kids: &[u16; 1280],
     marks: &mut [u8; 327],
-    node: usize,
+    root: usize,
 ) -> bool
-    requires { ⌜ TypeClasses (now up) (now kind) ⌝ ∗ ⌜ Parts (now kids) ⌝ ∗ ⌜ node < 327 ⌝ }
-    requires { ⌜ Way (now up) (now kind) (now kids) (now marks) node ⌝ }
-    ensures { λ r. ⌜ Walked (now (up .entry)) (now (kind .entry)) (now (kids .entry)) (now (marks .entry)) (now (marks .exit)) node r ⌝ }
+    requires { ⌜ TypeClasses (now up) (now kind) ⌝ ∗ ⌜ Parts (now kids) ⌝ ∗ ⌜ NewArrow (now up) (now kind) (now marks) root ⌝ }
+    requires { ⌜ Way (now up) (now kind) (now kids) (now marks) root ⌝ }
+    ensures { λ r. ⌜ Walked (now (up .entry)) (now (kind .entry)) (now (kids .entry)) (now (marks .entry)) (now (marks .exit)) root r ⌝ }
 {
-    let root = forest::find(up, node);
-    let k = kind[root] as usize;
-    if k < 2 {
-        return true;
-    }
-    let mark = marks[root];
-    if mark == ON_THE_WAY {
-        return false;
-    }
-    if mark != UNSEEN {
-        return true;
-    }
     marks[root] = ON_THE_WAY;
-    let argument_qualifier = graph::part(kids, k - 2, 0);
-    let argument = graph::part(kids, k - 2, 1);
+    let d = kind[root] as usize - 2;
+    let argument_qualifier = graph::part(kids, d, 0);
+    let argument = graph::part(kids, d, 1);
     if !finite_qualified(up, kind, kids, marks, argument_qualifier, argument) {
         return false;
     }
-    let result_qualifier = graph::part(kids, k - 2, 2);
-    let result = graph::part(kids, k - 2, 3);
+    let result_qualifier = graph::part(kids, d, 2);
+    let result = graph::part(kids, d, 3);
     if !finite_qualified(up, kind, kids, marks, result_qualifier, result) {
         return false;
     }
@@ -52,7 +41,7 @@ fn finite_type(
     true
 }
 
-// Whether a qualified type is finite: its type is, whatever the qualifier.
+// Whether a qualified type is finite, whatever the qualifier: it is no arrow, or known to be finite, or its type is.
 fn finite_qualified(
     up: &[u16; 327],
     kind: &[u16; 327],
@@ -65,7 +54,19 @@ fn finite_qualified(
     requires { ⌜ Way (now up) (now kind) (now kids) (now marks) node ⌝ }
     ensures { λ r. ⌜ Walked (now (up .entry)) (now (kind .entry)) (now (kids .entry)) (now (marks .entry)) (now (marks .exit)) node r ⌝ }
 {
-    finite_type(up, kind, kids, marks, node)
+    let root = forest::find(up, node);
+    if kind[root] < 2 {
+        return true;
+    }
+    let mark = marks[root];
+    if mark == ON_THE_WAY {
+        return false;
+    }
+    if mark != UNSEEN {
+        return true;
+    }
+    // called only here, so that what was met costs no call
+    finite_type(up, kind, kids, marks, root)
 }
 
 // Whether the search from a node meets no type that contains itself.
@@ -74,7 +75,7 @@ pub fn finite_from(up: &[u16; 327], kind: &[u16; 327], kids: &[u16; 1280], x: us
     ensures { λ r. ⌜ NoneIf r (now (up .entry)) (now (kind .entry)) (now (kids .entry)) ⌝ }
 {
     let mut marks = [UNSEEN; 327];
-    finite_type(up, kind, kids, &mut marks, x)
+    finite_qualified(up, kind, kids, &mut marks, 0, x)
 }
 
 // Whether a node's type is finite, where those of all nodes below it are: an arrow whose parts are among them needs no search.
@@ -99,7 +100,7 @@ fn finite_next(
             return true;
         }
     }
-    finite_type(up, kind, kids, marks, node)
+    finite_qualified(up, kind, kids, marks, node, node)
 }
 
 // Whether every node's type is finite, where the nodes from `count` on are unused.

@@ -2,19 +2,20 @@
 use Prim.Native.Nat.{ℕ, _<_, _≤_, _+_}
 use native.Mathlib.Omega.{arith}
 use borrow.Author.Count.{below-none, below-more}
-use borrow.Author.Tests.{eqb-true}
+use borrow.Author.Tests.{eqb-true, lt-ltb, le-ltb}
 use mathlib.Core.Bool.{Bool, true, false, true≢false, false≢true}
 use mathlib.Core.List.{List}
 use mathlib.Core.Path.{_≡_, refl, sym, ap, subst, _∙_}
 use lib.ListN.{getD, set}
-use lib.Seq.{set-getD}
+use lib.Seq.{set-getD, getD-set-other}
+use lib.Dec.{ltb}
 use Rattle.scheme.specs.Meet.{meetOf}
 use Rattle.scheme.proofs.Order.{rand-greatest}
 use Rattle.scheme.proofs.Meets.{meet-is-left}
 use Rattle.forest.specs.Forest.{up, Forest, Linked, Reach, here, further, Found, Rooted, Hung}
 use Rattle.forest.specs.Pairs.{PairsBelow}
 use Rattle.forest.proofs.Links.{by-eq, up-same, up-other, linked-into, linked-outof, linked-joins, reach-same, shorter-into, shorter-outof}
-use Rattle.qualifiers.specs.Classes.{boundAt, Classes, Untouched, Roots, United, UnitedAll}
+use Rattle.qualifiers.specs.Classes.{boundAt, Classes, Untouched, Roots, United, Class, UnitedAll}
 use Rattle.qualifiers.proofs.Bounds.{sinks-along, put-under-keeps, put-under-stays, lowered, lowered-stays}
 
 -- From a root no other node is reached.
@@ -51,8 +52,8 @@ shortened {p} {x = x} {r} k node rooted = subst (λ (l : List ℕ). Shortened p 
 
 module _ {p b : List ℕ} (k : Classes p b) (low high : ℕ) (roots : Roots p low high) where
   -- Two constants have their own codes in every reading.
-  pub join-clash : high < 7 → United p b p b low high false
-  join-clash constant =
+  clashing : high < 7 → United p b p b low high false
+  clashing constant =
       record {
         classes = k;
         into = λ e. absurd (false≢true e);
@@ -63,13 +64,13 @@ module _ {p b : List ℕ} (k : Classes p b) (low high : ℕ) (roots : Roots p lo
         stays = λ m _ _ u. u;
       }
 
-  pub joined : 7 ≤ high → United p b (set p high low) (set b low (meetOf (boundAt b low) (boundAt b high))) low high true
+  joined : 7 ≤ high → United p b (set p high low) (set b low (meetOf (boundAt b low) (boundAt b high))) low high true
   joined free =
-      let l = lowered k low (boundAt b high) (omega (arith, roots .less, roots .node)) (k .codes high (roots .node)) (roots .low-root) in
+      let l = lowered b (k .size) (k .codes) low (boundAt b high) (omega (arith, roots .less, roots .node)) (k .codes high (roots .node)) in
       let joins : (v : ℕ → ℕ) → Linked (set p high low) v → v high ≡ v low = linked-joins (k .forest) high low (roots .node) in
       record {
         classes =
-            put-under-keeps (l .classes) high low (roots .node)
+            put-under-keeps (l .classes p k (roots .low-root)) high low (roots .node)
             (omega (arith, roots .less))
             (λ constant. absurd (omega arith))
             (cc (l .fits, l .off high (λ e. omega (arith, roots .less))));
@@ -82,14 +83,45 @@ module _ {p b : List ℕ} (k : Classes p b) (low high : ℕ) (roots : Roots p lo
       }
 
   -- RAND bounds nothing, so the smaller root keeps its bound.
-  pub joined-rand : 7 ≤ high → boundAt b high ≡ 6 → United p b (set p high low) b low high true
+  joined-rand : 7 ≤ high → boundAt b high ≡ 6 → United p b (set p high low) b low high true
   joined-rand free rand =
       let code = k .codes low (omega (arith, roots .less, roots .node)) in
       let same : meetOf (boundAt b low) (boundAt b high) ≡ boundAt b low =
       ap (meetOf (boundAt b low)) rand ∙ eqb-true _ _ (meet-is-left (boundAt b low) 6 code (omega arith) ∙ rand-greatest (boundAt b low) code) in
       subst (λ (b′ : List ℕ). United p b (set p high low) b′ low high true) (ap (set b low) same ∙ set-getD b low 0) (joined free)
 
-pub united-turned : {p b p′ b′ : List ℕ} {x y : ℕ} {r : Bool} → United p b p′ b′ y x r → United p b p′ b′ x y r
+-- What `join` and `unite` answer: the root of the class that they made, or no node.
+abbrev Made : (p b p′ b′ : List ℕ) (x y at r : ℕ) → Type 0
+Made p b p′ b′ x y at r = United p b p′ b′ x y (ltb r 327) × Class p′ b b′ at r
+
+made-none : {p b p′ : List ℕ} {x y : ℕ} (at : ℕ) → United p b p′ b x y false → Made p b p′ b x y at 327
+made-none at u = (
+  u,
+  record { number = omega arith; root = λ h. absurd (omega arith); holds = λ h. absurd (omega arith); low = λ h. absurd (omega arith); others = λ z _. refl },
+)
+
+made-root : {p b p′ b′ : List ℕ} {x y at r : ℕ} → r < 327 → United p b p′ b′ x y true → up p′ r ≡ r → ((v : ℕ → ℕ) → Linked p′ v → v r ≡ v at) → r ≤ at →
+    ((z : ℕ) → (z ≡ r → ⊥) → boundAt b′ z ≡ boundAt b z) → Made p b p′ b′ x y at r
+made-root {r = r} node u root holds low others =
+    (rw (lt-ltb r 327 node) u, record { number = omega arith; root = λ _. root; holds = λ _. holds; low = λ _. low; others = others })
+
+module _ {p b : List ℕ} (k : Classes p b) (low high : ℕ) (roots : Roots p low high) where
+  pub join-clash : high < 7 → Made p b p b low high low 327
+  join-clash constant = made-none low (clashing k low high roots constant)
+
+  under : {b′ : List ℕ} → United p b (set p high low) b′ low high true → ((z : ℕ) → (z ≡ low → ⊥) → boundAt b′ z ≡ boundAt b z) → Made p b (set p high low) b′ low high low low
+  under u others =
+      made-root (omega (arith, roots .less, roots .node)) u
+      (up-other (k .forest) high low (roots .node) low (λ e. omega (arith, roots .less)) ∙ roots .low-root)
+      (λ v _. refl) (omega arith) others
+
+  pub join-meets : 7 ≤ high → Made p b (set p high low) (set b low (meetOf (boundAt b low) (boundAt b high))) low high low low
+  join-meets free = under (joined k low high roots free) (λ z n. getD-set-other b low z _ 0 n)
+
+  pub join-rand : 7 ≤ high → boundAt b high ≡ 6 → Made p b (set p high low) b low high low low
+  join-rand free rand = under (joined-rand k low high roots free rand) (λ z _. refl)
+
+united-turned : {p b p′ b′ : List ℕ} {x y : ℕ} {r : Bool} → United p b p′ b′ y x r → United p b p′ b′ x y r
 united-turned u =
     record {
       classes = u .classes;
@@ -136,7 +168,7 @@ module _ {p p₁ p₂ b : List ℕ} {x y a c : ℕ} (asked : Classes p b × ((x 
   roots-falling less =
       (kept, record { less = less; node = omega (arith, first .low, asked .1); low-root = second .root; high-root = second .roots a (first .root) })
 
-  pub united-already : a ≡ c → United p b p₂ b x y true
+  united-already : a ≡ c → United p b p₂ b x y true
   united-already e =
       record {
         classes = kept;
@@ -148,7 +180,7 @@ module _ {p p₁ p₂ b : List ℕ} {x y a c : ℕ} (asked : Classes p b × ((x 
         stays = λ m _ _. stays-both;
       }
 
-  pub united-roots : {p′ b′ : List ℕ} {r : Bool} → United p₂ b p′ b′ a c r → United p b p′ b′ x y r
+  united-roots : {p′ b′ : List ℕ} {r : Bool} → United p₂ b p′ b′ a c r → United p b p′ b′ x y r
   united-roots u =
       let up-to : (v : ℕ → ℕ) → Linked p₂ v → v x ≡ v y → v a ≡ v c = λ v linked e. sym (same-x v linked) ∙ e ∙ same-y v linked in
       record {
@@ -162,6 +194,41 @@ module _ {p p₁ p₂ b : List ℕ} {x y a c : ℕ} (asked : Classes p b × ((x 
         clash = λ two v own linked e. let after = into-both v linked in u .clash two v own after (up-to v after e);
         stays = λ m x-below y-below untouched. u .stays m (omega (arith, first .low)) (omega (arith, second .low)) (stays-both untouched);
       }
+
+  -- The class's root is that of y as well.
+  class-up : {p′ b′ : List ℕ} {at r : ℕ} → at ≤ c → (ltb r 327 ≡ true → (v : ℕ → ℕ) → Linked p′ v → (v at ≡ v y)) → Class p′ b b′ at r → Class p′ b b′ y r
+  class-up {r = r} low same found =
+      record {
+        number = found .number;
+        root = found .root;
+        holds = λ node v linked. found .holds node v linked ∙ same (lt-ltb r 327 node) v linked;
+        low = λ node. omega (arith, found .low node, second .low);
+        others = found .others;
+      }
+
+  pub unite-already : a ≡ c → Made p b p₂ b x y y a
+  unite-already e =
+      made-root (omega (arith, first .low, asked .1)) (united-already e) (second .roots a (first .root))
+      (λ v linked. ap v e ∙ sym (same-y v linked)) (omega (arith, second .low)) (λ z _. refl)
+
+  pub unite-rising : {p′ b′ : List ℕ} {r : ℕ} → a < c → Made p₂ b p′ b′ a c a r → Made p b p′ b′ x y y r
+  unite-rising less made = (
+    united-roots (made .0),
+    class-up (omega arith) (λ done v linked. let out = made .0 .outof done v linked in out .1 ∙ sym (same-y v (out .0))) (made .1),
+  )
+
+  pub unite-falling : {p′ b′ : List ℕ} {r : ℕ} → Made p₂ b p′ b′ c a c r → Made p b p′ b′ x y y r
+  unite-falling made = (
+    united-roots (united-turned (made .0)),
+    class-up (omega arith) (λ done v linked. sym (same-y v (made .0 .outof done v linked .0))) (made .1),
+  )
+
+-- The test of the answer.
+pub no-class : {r : ℕ} → r ≡ 327 → ltb r 327 ≡ false
+no-class {r} e = le-ltb r 327 (omega arith)
+
+pub class-node : {p′ b b′ : List ℕ} {y r : ℕ} → Class p′ b b′ y r → (r ≡ 327 → ⊥) → r < 327
+class-node found n = omega (arith, found .number)
 
 -- A node made one with another's root is made one with the other.
 united-below : {p b p′ b′ : List ℕ} {x y r : ℕ} → Found p y r → United p b p′ b′ x r true → United p b p′ b′ x y true

@@ -50,6 +50,14 @@ pub record United (p b p′ b′ : List ℕ) (x y : ℕ) (r : Bool) : Type 0 whe
   pub clash : r ≡ false → (v : ℕ → ℕ) → Constant v → Linked p v → v x ≡ v y → ⊥
   pub stays : (m : ℕ) → x < m → y < m → Untouched m p b → Untouched m p′ b′
 
+-- r is the root of the class that holds y, and no other node's bound has changed; or r is no node.
+pub record Class (p′ b b′ : List ℕ) (y r : ℕ) : Type 0 where
+  pub number : r ≤ 327
+  pub root : r < 327 → up p′ r ≡ r
+  pub holds : r < 327 → (v : ℕ → ℕ) → Linked p′ v → v r ≡ v y
+  pub low : r < 327 → r ≤ y
+  pub others : (z : ℕ) → (z ≡ r → ⊥) → boundAt b′ z ≡ boundAt b z
+
 -- The same of all the pairs, one after the other.
 pub record UnitedAll (p b p′ b′ left right : List ℕ) (n : ℕ) (r : Bool) : Type 0 where
   pub classes : Classes p′ b′
@@ -60,12 +68,15 @@ pub record UnitedAll (p b p′ b′ left right : List ℕ) (n : ℕ) (r : Bool) 
   pub clash : r ≡ false → (v : ℕ → ℕ) → Constant v → Linked p v → Alike left right n v → ⊥
   pub stays : (m : ℕ) → PairsBelow m left right n → Untouched m p b → Untouched m p′ b′
 
--- A node's class may be at most `most`.
-pub record Restricted (p b b′ : List ℕ) (x most : ℕ) : Type 0 where
-  pub classes : Classes p b′
-  pub into : (v : ℕ → ℕ) → Linked p v → Bounded b v → atOrBelow (v x) most ≡ true → Bounded b′ v
-  pub outof : (v : ℕ → ℕ) → Linked p v → Bounded b′ v → Bounded b v × (atOrBelow (v x) most ≡ true)
-  pub stays : (m : ℕ) → x < m → Untouched m p b → Untouched m p b′
+-- A root's bound was met with `most`; false: the root is a constant that is above its bound.
+pub record Restricted (b b′ : List ℕ) (r most : ℕ) (fits : Bool) : Type 0 where
+  pub classes : (p : List ℕ) → Classes p b → up p r ≡ r → Classes p b′
+  pub into : (v : ℕ → ℕ) → Bounded b v → atOrBelow (v r) most ≡ true → Bounded b′ v
+  pub outof : (v : ℕ → ℕ) → Bounded b′ v → Bounded b v × (atOrBelow (v r) most ≡ true)
+  pub stays : (p : List ℕ) (m : ℕ) → r < m → Untouched m p b → Untouched m p b′
+  pub others : (z : ℕ) → (z ≡ r → ⊥) → boundAt b′ z ≡ boundAt b z
+  pub own : fits ≡ true → r < 7 → atOrBelow r (boundAt b′ r) ≡ true
+  pub broken : fits ≡ false → (v : ℕ → ℕ) → Constant v → Bounded b′ v → ⊥
 
 -- Every constant is at or below its bound, or no reading is within the bounds.
 pub record Tested (b : List ℕ) (r : Bool) : Type 0 where

@@ -2,38 +2,42 @@
 ghost use mathlib.Core.Path.{_≡_};
 ghost use mathlib.Core.Bool.{true};
 ghost use Prim.Native.Nat.{ℕ, _<_};
+ghost use lib.Dec.{ltb};
 ghost use lib.ListN.{length};
 ghost use Rattle.scheme.specs.Order.{atOrBelow};
 ghost use Rattle.forest.specs.Forest.{Forest};
 ghost use Rattle.forest.specs.Pairs.{Pairs};
-ghost use Rattle.qualifiers.specs.Classes.{boundAt, Classes, Roots, United, UnitedAll, Restricted, Tested, Greatest};
+ghost use Rattle.qualifiers.specs.Classes.{boundAt, Classes, Roots, United, Class, UnitedAll, Restricted, Tested, Greatest};
 
-// Puts a root under a smaller one, which takes the meet of the two bounds; RAND leaves the other as it is. False: both are constants.
-fn join(parent: &mut [u16; 327], bound: &mut [u8; 327], low: usize, high: usize) -> bool
+// Where two constants would be one: no node has this number.
+const APART: usize = 327;
+
+// Puts a root under a smaller one, which takes the meet of the two bounds; RAND leaves the other as it is. The smaller one, or APART: both are constants.
+fn join(parent: &mut [u16; 327], bound: &mut [u8; 327], low: usize, high: usize) -> usize
     requires { ⌜ Classes (now parent) (now bound) ⌝ ∗ ⌜ Roots (now parent) low high ⌝ }
-    ensures { λ r. ⌜ United (now (parent .entry)) (now (bound .entry)) (now (parent .exit)) (now (bound .exit)) low high r ⌝ }
+    ensures { λ r. ⌜ United (now (parent .entry)) (now (bound .entry)) (now (parent .exit)) (now (bound .exit)) low high (ltb r 327) ⌝ ∗ ⌜ Class (now (parent .exit)) (now (bound .entry)) (now (bound .exit)) low r ⌝ }
 {
     if high < 7 {
-        return false;
+        return APART;
     }
     if bound[high] == 6 {
         forest::put_under(parent, high, low);
-        return true;
+        return low;
     }
     bound[low] = scheme::meet(bound[low], bound[high]);
     forest::put_under(parent, high, low);
-    true
+    low
 }
 
-// Makes the classes of two nodes one, under the smaller root. False: both hold a constant, and not the same one.
-pub fn unite(parent: &mut [u16; 327], bound: &mut [u8; 327], x: usize, y: usize) -> bool
+// Makes the classes of two nodes one, under the smaller root: that root, or APART: both hold a constant, and not the same one.
+pub fn unite(parent: &mut [u16; 327], bound: &mut [u8; 327], x: usize, y: usize) -> usize
     requires { ⌜ Classes (now parent) (now bound) ⌝ ∗ ⌜ (x < 327) × (y < 327) ⌝ }
-    ensures { λ r. ⌜ United (now (parent .entry)) (now (bound .entry)) (now (parent .exit)) (now (bound .exit)) x y r ⌝ }
+    ensures { λ r. ⌜ United (now (parent .entry)) (now (bound .entry)) (now (parent .exit)) (now (bound .exit)) x y (ltb r 327) ⌝ ∗ ⌜ Class (now (parent .exit)) (now (bound .entry)) (now (bound .exit)) y r ⌝ }
 {
     let a = forest::root(parent, x);
     let b = forest::root(parent, y);
     if a == b {
-        return true;
+        return a;
     }
     if a < b {
         join(parent, bound, a, b)
@@ -55,7 +59,7 @@ pub fn unite_all(
 {
     let mut i: usize = 0;
     while i < n {
-        if !unite(parent, bound, left[i] as usize, right[i] as usize) {
+        if unite(parent, bound, left[i] as usize, right[i] as usize) == APART {
             return false;
         }
         i += 1;
@@ -63,13 +67,20 @@ pub fn unite_all(
     true
 }
 
-// Lowers the bound of a node's class to what `most` allows.
-pub fn restrict(parent: &[u16; 327], bound: &mut [u8; 327], x: usize, most: u8)
-    requires { ⌜ Classes (now parent) (now bound) ⌝ ∗ ⌜ (x < 327) × (most < 7) ⌝ }
-    ensures { λ _. ⌜ Restricted (now (parent .entry)) (now (bound .entry)) (now (bound .exit)) x most ⌝ }
+// Lowers the bound of a root to what `most` allows. False: the root is a constant, and above its bound.
+pub fn restrict(bound: &mut [u8; 327], r: usize, most: u8) -> bool
+    requires { ⌜ (length (now bound) ≡ 327) × ((x : ℕ) → x < 327 → boundAt (now bound) x < 7) ⌝ ∗ ⌜ (r < 327) × (most < 7) ⌝ }
+    ensures { λ fits. ⌜ Restricted (now (bound .entry)) (now (bound .exit)) r most fits ⌝ }
 {
-    let r = forest::find(parent, x);
-    bound[r] = scheme::meet(bound[r], most);
+    if bound[r] == 6 {
+        bound[r] = most;
+    } else {
+        bound[r] = scheme::meet(bound[r], most);
+    }
+    if r < 7 {
+        return scheme::at_or_below(r as u8, bound[r]);
+    }
+    true
 }
 
 // Whether every constant is at or below its bound. RAND bounds nothing, and most bounds are RAND.

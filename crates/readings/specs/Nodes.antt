@@ -3,7 +3,8 @@
 use Prim.Native.Nat.{ℕ, _+_, _<_, _≤_}
 use mathlib.Core.Bool.{Bool, true, false, cond}
 use mathlib.Core.Path.{_≡_}
-use lib.ListN.{length}
+use mathlib.Core.List.{List}
+use lib.ListN.{length, getD}
 use Rattle.scheme.specs.Qualifier.{code, qualifier}
 use Rattle.scheme.specs.Order.{atOrBelow}
 use Rattle.scheme.specs.Operation.{highestOf, keeps}
@@ -72,6 +73,10 @@ parameterOf (Op o l r) = 0
 parameterOf (Var p) = p
 parameterOf (Num n) = 0
 parameterOf (Enc s n) = 0
+
+-- What a list of the parameters' nodes has for the parameter that a row names.
+abbrev pub named : List ℕ → Term → ℕ
+named nodes term = getD nodes (parameterOf term) 0
 
 -- The words and shapes that codes and kinds of nodes give the slots; a kind is 0 for unknown, 1 for INT, more for an arrow.
 abbrev pub wordOf : Machine → (ℕ → ℕ) → Slot → ℕ

@@ -5,25 +5,37 @@ use mathlib.Core.Bool.{Bool, true, false, cond}
 use mathlib.Core.List.{List}
 use mathlib.Core.Path.{_≡_, refl, sym, ap, subst, _∙_}
 use lib.ListN.{set}
+use lib.Dec.{ltb}
+use borrow.Author.Tests.{lt-ltb}
 use Rattle.scheme.specs.Order.{atOrBelow}
 use Rattle.scheme.specs.Operation.{keeps, resultOf, highestOf}
 use Rattle.model.specs.Typing.{Ty, int}
 use Rattle.model.specs.declared.Term.the-variants.{Op}
-use Rattle.forest.specs.Forest.{Hung}
-use Rattle.graph.specs.Types.{TypeClasses, Clashes, Intact, IsInt}
+use Rattle.forest.specs.Forest.{up, here, Hung}
+use Rattle.forest.proofs.Links.{by-eq, up-other}
+use Rattle.graph.specs.Types.{TypeClasses}
 use Rattle.graph.specs.Unused.{Unused}
-use Rattle.qualifiers.specs.Classes.{Classes, Constant, Bounded, United, Restricted, Tested, Untouched}
-use Rattle.qualifiers.proofs.Uniting.{new-alike, untouched-more}
+use Rattle.qualifiers.specs.Classes.{boundAt, Classes, United, Class, Restricted, Untouched}
+use Rattle.qualifiers.proofs.Uniting.{no-class, class-node, new-alike, untouched-more}
 use Rattle.readings.specs.Nodes.{RowHolds, RowFits}
 use Rattle.unification.specs.Merging.{Always, Reduced, MadeInt}
-use Rattle.unification.proofs.Merging.{clashes-after, intact-after}
+use Rattle.unification.proofs.Merging.{intact-after}
 use Rattle.unification.proofs.Unused.{unused-kind, unused-more}
 use Rattle.unification.proofs.Fresh.{new-int}
 use Rattle.rows.specs.Steps.{Extended, Ready, Stepped}
 use Rattle.rows.specs.declared.Verdict.the-variants.{Fine, Shapes, Apart, Broken}
-use Rattle.rows.proofs.Steps.{Taken, taken-beside, Equated, equated-one, equated-then, extended, extended-below, parted}
+use Rattle.rows.proofs.Steps.{Taken, taken-beside, Equated, equated-one, equated-then, equated-as, extended, extended-below, parted}
 
--- The result's node has what the rule says of the result.
+-- The result's node is the operands' or PLAIN's.
+pub result-one : (P : ℕ → Type 0) (o l : ℕ) {r : ℕ} → r ≡ resultOf o l → P l → P 0 → P r
+unfolding resultOf
+result-one P o l is own plain = subst P (sym is) (go (keeps o))
+  where
+    go : (b : Bool) → P (cond b l 0)
+    go true = own
+    go false = plain
+
+-- It has what the rule says of the result.
 result-node : (o l : ℕ) (v : ℕ → ℕ) → v (resultOf o l) ≡ cond (keeps o) (v l) (v 0)
 unfolding resultOf
 result-node o l v = go (keeps o)
@@ -32,14 +44,9 @@ result-node o l v = go (keeps o)
     go true = refl
     go false = refl
 
--- The result's node is PLAIN's or the operands'.
-pub result-below : (o l r n : ℕ) → l < n → r ≡ resultOf o l → r < n
-unfolding resultOf
-result-below o l r n h e = rw e (go (keeps o))
-  where
-    go : (b : Bool) → cond b l 0 < n
-    go true = h
-    go false = omega arith
+-- That is the same for the operand's root as for the operand.
+result-alike : (o x y : ℕ) {r : ℕ} (v : ℕ → ℕ) → r ≡ resultOf o x → v x ≡ v y → v r ≡ v (resultOf o y)
+result-alike o x y v is e = ap v is ∙ result-node o x v ∙ ap (λ (a : ℕ). cond (keeps o) a (v 0)) e ∙ sym (result-node o y v)
 
 -- One equation of types after the other.
 reduced-beside : {kids u k u₁ k₁ u₂ k₂ : List ℕ} {E F : (ℕ → Ty ℕ) → (ℕ → ℕ) → Type 0} → Reduced kids u k u₁ k₁ E Always → Reduced kids u₁ k₁ u₂ k₂ F Always →
@@ -106,48 +113,91 @@ module _ {i l r : ℕ} {u k p b : List ℕ} (o : ℕ) (stands : (i < 256) × (l 
               unused-kind (unused-more (unused-second kids unused) (omega arith)) (i + 64) 1 (omega arith) (omega arith) (right-classes .size) (λ h. absurd (omega arith))
 
           -- The qualifiers that the row asks for.
-          abbrev Alikes : ℕ → (ℕ → ℕ) → Type 0
-          Alikes result v = (v (r + 71) ≡ v (l + 71)) × (v (i + 71) ≡ v result)
+          abbrev Alikes : (ℕ → ℕ) → Type 0
+          Alikes v = (v (r + 71) ≡ v (l + 71)) × (v (i + 71) ≡ v (resultOf o (l + 71)))
 
-          taken : (kids : List ℕ) (result : ℕ) → result ≡ resultOf o (l + 71) → Unused (i + 64) u k kids → Taken kids u k u₂ k₃ Holds (Alikes result)
-          taken kids result is unused =
+          taken : (kids : List ℕ) → Unused (i + 64) u k kids → Taken kids u k u₂ k₃ Holds Alikes
+          taken kids unused =
               taken-beside (all-int kids unused)
-              (λ t v e. (((e .0, e .1), e .4), (e .2, e .3 ∙ sym (result-node o (l + 71) v) ∙ ap v (sym is))))
-              (λ t v f q. (f .0 .0, f .0 .1, q .0, q .1 ∙ ap v is ∙ result-node o (l + 71) v, f .1))
+              (λ t v e. (((e .0, e .1), e .4), (e .2, e .3 ∙ sym (result-node o (l + 71) v))))
+              (λ t v f q. (f .0 .0, f .0 .1, q .0, q .1 ∙ result-node o (l + 71) v, f .1))
 
-          module _ {p₁ b₁ : List ℕ} {three : Bool} (united : United p b p₁ b₁ (r + 71) (l + 71) three) where
+          module _ {p₁ b₁ : List ℕ} {class : ℕ} (answer : United p b p₁ b₁ (r + 71) (l + 71) (ltb class 327) × Class p₁ b b₁ (l + 71) class) where
             -- The operands have two constants.
-            pub operands-apart : three ≡ false → (kids : List ℕ) → Ready i kids u k p b → Stepped i kids u k p b u₂ k₃ p₁ b₁ Holds Fits Apart
-            operands-apart clashed kids ready = (
-              parted (taken kids (resultOf o (l + 71)) refl (ready .types)) (refl, refl) (λ v constant linked q. united .clash clashed v constant linked (q .0)),
+            pub operands-apart : class ≡ 327 → (kids : List ℕ) → Ready i kids u k p b → Stepped i kids u k p b u₂ k₃ p₁ b₁ Holds Fits Apart
+            operands-apart none kids ready = (
+              parted (taken kids (ready .types)) (refl, refl) (λ v constant linked q. answer .0 .clash (no-class none) v constant linked (q .0)),
               unused-after kids (ready .types),
             )
 
-            module _ {result : ℕ} {p₂ : List ℕ} (is : result ≡ resultOf o (l + 71)) (hung : Hung p₁ p₂ (i + 71) result) (untouched : Untouched (i + 71) p b) where
-              untouched-first : Untouched (i + 71) p₁ b₁
-              untouched-first = united .stays (i + 71) (omega arith) (omega arith) untouched
+            module _ (some : class ≡ 327 → ⊥) where
+              node : class < 327
+              node = class-node (answer .1) some
 
-              pub new-result : United p₁ b₁ p₂ b₁ (i + 71) result true
-              new-result =
-                  new-alike (united .classes) (omega arith) (omega arith) (untouched-first .own (i + 71) (omega arith) (omega arith)) (untouched-first .unbound (i + 71) (omega arith) (omega arith))
-                  (result-below o (l + 71) result (i + 71) (omega arith) is) hung
+              below : class < i + 71
+              below = omega (arith, answer .1 .low node)
 
-              module _ (alike : three ≡ true) {most : ℕ} {b₂ : List ℕ} {four : Bool} (limit : most ≡ highestOf o) (restricted : Restricted p₂ b₁ b₂ (l + 71) most) (tested : Tested b₂ four) where
-                op-extended : (kids : List ℕ) → Ready i kids u k p b → Extended kids u k p b u₂ k₃ p₂ b₂ Holds Fits
-                op-extended kids ready =
-                    subst (λ (n : ℕ). Extended kids u k p b u₂ k₃ p₂ b₂ Holds (λ v. atOrBelow (v (l + 71)) n ≡ true)) limit
-                    (extended-below (extended (taken kids result is (ready .types)) (equated-then (equated-one (rw alike at united)) (equated-one new-result))) restricted)
+              united : United p b p₁ b₁ (r + 71) (l + 71) true
+              united = rw (lt-ltb class 327 node) at (answer .0)
 
-                pub op-fine : four ≡ true → (kids : List ℕ) → Ready i kids u k p b → Stepped i kids u k p b u₂ k₃ p₂ b₂ Holds Fits Fine
-                op-fine fits kids ready = (
-                  op-extended kids ready,
-                  record {
-                    types = unused-after kids (ready .types);
-                    qualifiers = restricted .stays (i + 1 + 71) (omega arith)
-                        (new-result .stays (i + 1 + 71) (omega arith) (result-below o (l + 71) result (i + 1 + 71) (omega arith) is) (untouched-more (omega arith) untouched-first));
-                    within = tested .within fits;
-                  },
-                )
+              module _ {result : ℕ} {p₂ : List ℕ} (is : result ≡ resultOf o class) (under : p₂ ≡ set p₁ (i + 71) result) (untouched : Untouched (i + 71) p b) where
+                untouched-first : Untouched (i + 71) p₁ b₁
+                untouched-first = united .stays (i + 71) (omega arith) (omega arith) untouched
 
-                pub op-broken : four ≡ false → (kids : List ℕ) → Ready i kids u k p b → Stepped i kids u k p b u₂ k₃ p₂ b₂ Holds Fits Broken
-                op-broken over kids ready = (op-extended kids ready, unused-after kids (ready .types), tested .broken over)
+                -- The result is a root, so the row's node is put under it as it is.
+                hung : Hung p₁ p₂ (i + 71) result
+                hung =
+                    record {
+                      root = result;
+                      found = record {
+                        low = omega arith;
+                        root = result-one (λ x. up p₁ x ≡ x) o class is (answer .1 .root node) (united .classes .constants 0 (omega arith));
+                        reached = here;
+                      };
+                      under = under;
+                    }
+
+                result-below : result < i + 71
+                result-below = result-one (λ x. x < i + 71) o class is below (omega arith)
+
+                new-result : United p₁ b₁ p₂ b₁ (i + 71) result true
+                new-result =
+                    new-alike (united .classes) (omega arith) (omega arith) (untouched-first .own (i + 71) (omega arith) (omega arith)) (untouched-first .unbound (i + 71) (omega arith) (omega arith))
+                    result-below hung
+
+                equated : Equated p b p₂ b₁ Alikes
+                equated =
+                    equated-then (equated-one united)
+                    (equated-as
+                    (λ v linked e. e ∙ sym (result-alike o class (l + 71) v is (answer .1 .holds node v linked)))
+                    (λ v linked e. e ∙ result-alike o class (l + 71) v is (answer .1 .holds node v linked))
+                    (equated-one new-result))
+
+                module _ {most : ℕ} {b₂ : List ℕ} {fits : Bool} (limit : most ≡ highestOf o) (restricted : Restricted b₁ b₂ class most fits) where
+                  op-extended : (kids : List ℕ) → Ready i kids u k p b → Extended kids u k p b u₂ k₃ p₂ b₂ Holds Fits
+                  op-extended kids ready =
+                      subst (λ (n : ℕ). Extended kids u k p b u₂ k₃ p₂ b₂ Holds (λ v. atOrBelow (v (l + 71)) n ≡ true)) limit
+                      (extended-below (extended (taken kids (ready .types)) equated) restricted
+                      (rw under (up-other (united .classes .forest) (i + 71) result (omega arith) class (λ e. omega (arith, below)) ∙ answer .1 .root node))
+                      (λ v linked. answer .1 .holds node v (new-result .outof refl v linked .0)))
+
+                  -- Only the class's bound has changed, and a constant's was tested.
+                  within-after : fits ≡ true → ((c : ℕ) → c < 7 → atOrBelow c (boundAt b c) ≡ true) → (c : ℕ) → c < 7 → atOrBelow c (boundAt b₂ c) ≡ true
+                  within-after fit within c code =
+                      by-eq c class
+                      (λ e. subst (λ (x : ℕ). atOrBelow x (boundAt b₂ x) ≡ true) (sym e) (restricted .own fit (omega arith)))
+                      (λ n. ap (atOrBelow c) (restricted .others c n ∙ answer .1 .others c n) ∙ within c code)
+
+                  pub op-fine : fits ≡ true → (kids : List ℕ) → Ready i kids u k p b → Stepped i kids u k p b u₂ k₃ p₂ b₂ Holds Fits Fine
+                  op-fine fit kids ready = (
+                    op-extended kids ready,
+                    record {
+                      types = unused-after kids (ready .types);
+                      qualifiers = restricted .stays p₂ (i + 1 + 71) (omega (arith, below))
+                          (new-result .stays (i + 1 + 71) (omega arith) (omega (arith, result-below)) (untouched-more (omega arith) untouched-first));
+                      within = within-after fit (ready .within);
+                    },
+                  )
+
+                  pub op-broken : fits ≡ false → (kids : List ℕ) → Ready i kids u k p b → Stepped i kids u k p b u₂ k₃ p₂ b₂ Holds Fits Broken
+                  op-broken over kids ready = (op-extended kids ready, unused-after kids (ready .types), restricted .broken over)

@@ -1,12 +1,12 @@
 -- A row's step, put together from its types, its qualifiers and its bound.
-use Prim.Native.Nat.{ℕ, _<_}
+use Prim.Native.Nat.{ℕ}
 use native.Mathlib.Omega.{arith}
-use mathlib.Core.Bool.{true}
+use mathlib.Core.Bool.{Bool, true}
 use mathlib.Core.List.{List}
 use mathlib.Core.Path.{_≡_, refl}
 use Rattle.scheme.specs.Order.{atOrBelow}
 use Rattle.model.specs.Typing.{Ty}
-use Rattle.forest.specs.Forest.{Linked}
+use Rattle.forest.specs.Forest.{up, Linked}
 use Rattle.forest.specs.Pairs.{Alike}
 use Rattle.graph.specs.Types.{TypeClasses, Reads, Joined}
 use Rattle.qualifiers.specs.Classes.{Classes, Constant, Bounded, United, UnitedAll, Restricted}
@@ -77,6 +77,18 @@ equated-then one two =
       bounds-outof = λ v linked bounded. one .bounds-outof v (two .outof v linked .0) (two .bounds-outof v linked bounded);
     }
 
+-- What is asked, in words that mean the same to the readings.
+pub equated-as : {p b p′ b′ : List ℕ} {Q R : (ℕ → ℕ) → Type 0} → ((v : ℕ → ℕ) → Linked p v → R v → Q v) → ((v : ℕ → ℕ) → Linked p v → Q v → R v) →
+    Equated p b p′ b′ Q → Equated p b p′ b′ R
+equated-as there back e =
+    record {
+      classes = e .classes;
+      into = λ v linked r. e .into v linked (there v linked r);
+      outof = λ v linked. let before = e .outof v linked in (before .0, back v (before .0) (before .1));
+      bounds-into = e .bounds-into;
+      bounds-outof = e .bounds-outof;
+    }
+
 module _ {kids u k u′ k′ : List ℕ} {E : (ℕ → Ty ℕ) → (ℕ → ℕ) → Type 0} {Q : (ℕ → ℕ) → Type 0} (taken : Taken kids u k u′ k′ E Q) where
   pub extended : {p b p′ b′ : List ℕ} → Equated p b p′ b′ Q → Extended kids u k p b u′ k′ p′ b′ E (λ v. Unit {0})
   extended equated =
@@ -103,18 +115,19 @@ module _ {kids u k u′ k′ : List ℕ} {E : (ℕ → Ty ℕ) → (ℕ → ℕ)
         erased = λ t reads. taken .outof t (λ x. 0) reads erased;
       }
 
--- A bound is asked for beside.
-pub extended-below : {kids u k p b u′ k′ p′ b₁ b′ : List ℕ} {E : (ℕ → Ty ℕ) → (ℕ → ℕ) → Type 0} {x most : ℕ} →
-    Extended kids u k p b u′ k′ p′ b₁ E (λ v. Unit {0}) → Restricted p′ b₁ b′ x most → Extended kids u k p b u′ k′ p′ b′ E (λ v. atOrBelow (v x) most ≡ true)
-extended-below e restricted =
+-- A bound is asked for beside, of a root that the readings do not tell from x.
+pub extended-below : {kids u k p b u′ k′ p′ b₁ b′ : List ℕ} {E : (ℕ → Ty ℕ) → (ℕ → ℕ) → Type 0} {x r most : ℕ} {fits : Bool} →
+    Extended kids u k p b u′ k′ p′ b₁ E (λ v. Unit {0}) → Restricted b₁ b′ r most fits → up p′ r ≡ r → ((v : ℕ → ℕ) → Linked p′ v → v r ≡ v x) →
+    Extended kids u k p b u′ k′ p′ b′ E (λ v. atOrBelow (v x) most ≡ true)
+extended-below {p′ = p′} e restricted root same =
     record {
       types = e .types;
-      classes = restricted .classes;
+      classes = restricted .classes p′ (e .classes) root;
       into = e .into;
       outof = e .outof;
       linked = e .linked;
-      bounds-into = λ v linked bounded fits. restricted .into v linked (e .bounds-into v linked bounded tt) fits;
-      bounds-outof = λ v linked bounded. let before = restricted .outof v linked bounded in (e .bounds-outof v linked (before .0) .0, before .1);
+      bounds-into = λ v linked bounded fits. restricted .into v (e .bounds-into v linked bounded tt) (cc (same v linked));
+      bounds-outof = λ v linked bounded. let before = restricted .outof v bounded in (e .bounds-outof v linked (before .0) .0, cc (same v linked, before .1));
     }
 
 -- The same equations in other words.

@@ -1,13 +1,13 @@
 -- What one row's step does to the solver's state, said by the readings of the nodes.
 use Prim.Native.Nat.{ℕ, _+_, _<_}
-use mathlib.Core.Bool.{true}
+use mathlib.Core.Bool.{Bool, true, false}
 use mathlib.Core.List.{List}
 use mathlib.Core.Path.{_≡_}
 use Rattle.model.specs.Typing.{Ty}
 use lib.ListN.{set}
 use Rattle.scheme.specs.Order.{atOrBelow}
-use Rattle.forest.specs.Forest.{Linked, Hung}
-use Rattle.graph.specs.Types.{TypeClasses, Reads, Clashes, Intact}
+use Rattle.forest.specs.Forest.{up, Linked, Hung}
+use Rattle.graph.specs.Types.{kindAt, TypeClasses, Reads, Clashes, Intact}
 use Rattle.graph.specs.Unused.{Unused}
 use Rattle.qualifiers.specs.Classes.{boundAt, Classes, Constant, Bounded, Untouched}
 use Rattle.rows.specs.declared.Verdict.{Verdict}
@@ -50,3 +50,15 @@ Stepped i kids u k p b u′ k′ p′ b′ E F Broken =
 pub record Known (i q m : ℕ) (k p k′ p′ : List ℕ) : Type 0 where
   pub kind : k′ ≡ set k (i + 64) m
   pub qualifier : Hung p p′ (i + 71) q
+
+-- A root without a kind.
+pub record UnknownRoot (u k : List ℕ) (x : ℕ) : Type 0 where
+  pub node : x < 327
+  pub root : up u x ≡ x
+  pub unknown : kindAt k x ≡ 0
+
+-- A root became the arrow of descriptor d; or that leaves no reading, and its kind is as it was.
+pub record Bound (kids u k k′ : List ℕ) (x d : ℕ) (r : Bool) : Type 0 where
+  pub bound : r ≡ true → k′ ≡ set k x (d + 2)
+  pub same : r ≡ false → k′ ≡ k
+  pub none : r ≡ false → (t : ℕ → Ty ℕ) (v : ℕ → ℕ) → Reads u (set k x (d + 2)) kids t v → ⊥

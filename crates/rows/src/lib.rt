@@ -1,20 +1,18 @@
 // One row of the table, as a step of the solver: its types, then its qualifiers, then its bound.
 use model::Term;
 use unification::Joining;
-ghost use mathlib.Core.Path.{_≡_};
 ghost use mathlib.Core.List.{List};
 ghost use Prim.Native.Nat.{ℕ, _+_, _<_};
-ghost use lib.ListN.{set};
 ghost use Rattle.model.specs.declared.Term.the-variants.{App, Op};
-ghost use Rattle.forest.specs.Forest.{Forest, Hung};
-ghost use Rattle.graph.specs.Types.{Parts, TypeClasses};
-ghost use Rattle.graph.specs.Unused.{Within};
+ghost use Rattle.forest.specs.Forest.{Forest};
+ghost use Rattle.graph.specs.Types.{Parts, TypeClasses, Room, Same};
+ghost use Rattle.graph.specs.Unused.{Unused};
 ghost use Rattle.qualifiers.specs.Classes.{Classes, Untouched};
-ghost use Rattle.readings.specs.Nodes.{RowHolds, RowFits};
+ghost use Rattle.readings.specs.Nodes.{RowHolds, RowFits, named};
 ghost use Rattle.unification.specs.Answers.{Answered, Confined};
 ghost use Rattle.setup.specs.Descriptors.{Describes};
 ghost use Rattle.rows.specs.Rows.{RowStands};
-ghost use Rattle.rows.specs.Steps.{Ready, Stepped, Known};
+ghost use Rattle.rows.specs.Steps.{Ready, Stepped, Known, UnknownRoot, Bound};
 
 // How a row's step went: fine; or its types clash, and are as they were; or its types clash; or two constants meet; or one is above its bound.
 pub enum Verdict {
@@ -55,45 +53,93 @@ fn op_row(
         return Verdict::Shapes;
     }
     kind[i + 64] = 1;
-    if !qualifiers::unite(parent, bound, r + 71, l + 71) {
+    let class = qualifiers::unite(parent, bound, r + 71, l + 71);
+    if class == 327 {
         return Verdict::Apart;
     }
-    let result = scheme::result(o, (l + 71) as u16) as usize;
-    forest::put_under_root(parent, i + 71, result);
-    qualifiers::restrict(parent, bound, l + 71, scheme::highest(o));
-    if qualifiers::within_bounds(bound) {
+    let result = scheme::result(o, class as u16) as usize;
+    forest::put_under(parent, i + 71, result);
+    if qualifiers::restrict(bound, class, scheme::highest(o)) {
         Verdict::Fine
     } else {
         Verdict::Broken
     }
 }
 
-// Whether the application of a function's node to an argument's can make a type that contains itself: it is applied to itself, or an arrow is made
-// one with another type. The row's own node is new, so that no type contains it. To search where there is no need does no harm, and a type
-// that is missed here is found at the end.
-fn can_close(up: &[u16; 327], kind: &[u16; 327], kids: &[u16; 1280], f: usize, a: usize) -> bool
-    requires { ⌜ TypeClasses (now up) (now kind) ⌝ ∗ ⌜ Parts (now kids) ⌝ ∗ ⌜ (f < 327) × (a < 327) ⌝ }
+// Whether making two nodes' types one can make a type that contains itself: they are two, and one is an arrow. To search where there is no need
+// does no harm, and a type that is missed here is found at the end.
+fn can_close(up: &[u16; 327], kind: &[u16; 327], x: usize, y: usize) -> bool
+    requires { ⌜ TypeClasses (now up) (now kind) ⌝ ∗ ⌜ (x < 327) × (y < 327) ⌝ }
 {
-    let function = forest::find(up, f);
-    let argument = forest::find(up, a);
-    if function == argument {
-        return true;
-    }
-    let k = kind[function] as usize;
-    if k < 2 {
-        return 1 < kind[argument];
-    }
-    let parameter = forest::find(up, graph::part(kids, k - 2, 1));
-    if parameter == argument {
+    let a = forest::find(up, x);
+    let b = forest::find(up, y);
+    if a == b {
         return false;
     }
-    if kind[parameter] < 2 {
-        return 1 < kind[argument];
+    if 1 < kind[a] {
+        return true;
     }
-    true
+    1 < kind[b]
 }
 
-// The equation of an APP row. Where it can make a type that contains itself the types are kept, and put back if it does or if they clash.
+// Makes the types of two nodes one. Where that can make a type that contains itself the types are kept, and put back if it does or if they clash.
+fn unify_kept(
+    up: &mut [u16; 327],
+    kind: &mut [u16; 327],
+    kids: &[u16; 1280],
+    left: &mut [u16; 704],
+    right: &mut [u16; 704],
+    n: usize,
+    x: usize,
+    y: usize,
+) -> Joining
+    requires { ⌜ TypeClasses (now up) (now kind) ⌝ ∗ ⌜ Parts (now kids) ⌝ ∗ ⌜ Room (now up) (now left) (now right) n ⌝ ∗ ⌜ (x < 327) × (y < 327) ⌝ }
+    ensures { λ r. ⌜ Answered (now (kids .entry)) (now (up .entry)) (now (kind .entry)) (now (left .entry)) (now (right .entry)) (now (up .exit)) (now (kind .exit)) (now (left .exit)) (now (right .exit)) n (Same x y) r ⌝ ∗ ⌜ ((m : ℕ) → x < m → y < m → Confined m (now (kids .entry)) (now (up .entry)) (now (kind .entry)) (now (left .entry)) (now (right .entry)) (now (up .exit)) (now (kind .exit)) (now (left .exit)) (now (right .exit)) n r) ⌝ }
+{
+    if !can_close(up, kind, x, y) {
+        return unification::unify(up, kind, kids, left, right, n, x, y);
+    }
+    let up_before = *up;
+    let kind_before = *kind;
+    match unification::unify(up, kind, kids, left, right, n, x, y) {
+        Joining::Pairs(m) => {
+            if occurs::finite_from(up, kind, kids, x) {
+                return Joining::Pairs(m);
+            }
+        }
+        Joining::Clash => {}
+        Joining::Lost => {}
+    }
+    *up = up_before;
+    *kind = kind_before;
+    Joining::Clash
+}
+
+// Makes an unknown root the arrow of row i, unless the row's argument is an arrow that would contain it.
+fn bind(
+    up: &[u16; 327],
+    kind: &mut [u16; 327],
+    kids: &[u16; 1280],
+    i: usize,
+    function: usize,
+    argument: usize,
+) -> bool
+    requires { ⌜ TypeClasses (now up) (now kind) ⌝ ∗ ⌜ Parts (now kids) ⌝ ∗ ⌜ (i < 256) × (argument < 327) × UnknownRoot (now up) (now kind) function ⌝ }
+    ensures { λ r. ⌜ Bound (now (kids .entry)) (now (up .entry)) (now (kind .entry)) (now (kind .exit)) function (i + 64) r ⌝ }
+{
+    kind[function] = i as u16 + 66;
+    if kind[forest::find(up, argument)] < 2 {
+        return true;
+    }
+    if occurs::finite_from(up, kind, kids, argument) {
+        return true;
+    }
+    kind[function] = 0;
+    false
+}
+
+// The equation of an APP row. A function that is unknown becomes the arrow of the row; of one that is an arrow the row's own node, which is new, is
+// put under the result, and the argument is made one with the argument.
 fn apply(
     up: &mut [u16; 327],
     kind: &mut [u16; 327],
@@ -104,27 +150,34 @@ fn apply(
     f: usize,
     a: usize,
 ) -> Joining
-    requires { ⌜ TypeClasses (now up) (now kind) ⌝ ∗ ⌜ Parts (now kids) ⌝ ∗ ⌜ (i < 256) × (f < i) × (a < i) × Describes (now kids) i (App f a) 0 0 ⌝ }
-    ensures { λ r. ⌜ Answered (now (kids .entry)) (now (up .entry)) (now (kind .entry)) (now (left .entry)) (now (right .entry)) (now (up .exit)) (now (kind .exit)) (now (left .exit)) (now (right .exit)) 0 (RowHolds i (App f a) 0 0) r ⌝ ∗ ⌜ ((m : ℕ) → f + 64 < m → Within m (now (kids .entry)) (i + 64) → Confined m (now (kids .entry)) (now (up .entry)) (now (kind .entry)) (now (left .entry)) (now (right .entry)) (now (up .exit)) (now (kind .exit)) (now (left .exit)) (now (right .exit)) 0 r) ⌝ }
+    requires { ⌜ TypeClasses (now up) (now kind) ⌝ ∗ ⌜ Parts (now kids) ⌝ ∗ ⌜ (i < 256) × (f < i) × (a < i) × Describes (now kids) i (App f a) 0 0 ⌝ ∗ ⌜ Unused (i + 64) (now up) (now kind) (now kids) ⌝ }
+    ensures { λ r. ⌜ Answered (now (kids .entry)) (now (up .entry)) (now (kind .entry)) (now (left .entry)) (now (right .entry)) (now (up .exit)) (now (kind .exit)) (now (left .exit)) (now (right .exit)) 0 (RowHolds i (App f a) 0 0) r ⌝ ∗ ⌜ Confined (i + 1 + 64) (now (kids .entry)) (now (up .entry)) (now (kind .entry)) (now (left .entry)) (now (right .entry)) (now (up .exit)) (now (kind .exit)) (now (left .exit)) (now (right .exit)) 0 r ⌝ }
 {
-    if !can_close(up, kind, kids, f + 64, a + 64) {
-        return unification::make_arrow(up, kind, kids, left, right, 0, f + 64, i + 64);
-    }
-    let up_before = *up;
-    let kind_before = *kind;
-    match unification::make_arrow(up, kind, kids, left, right, 0, f + 64, i + 64) {
-        Joining::Pairs(n) => {
-            // what was made one lies at the argument or below it
-            if occurs::finite_from(up, kind, kids, a + 64) {
-                return Joining::Pairs(n);
-            }
+    let function = forest::root(up, f + 64);
+    let k = kind[function] as usize;
+    if k == 0 {
+        if bind(up, kind, kids, i, function, a + 64) {
+            return Joining::Pairs(0);
         }
-        Joining::Clash => {}
-        Joining::Lost => {}
+        return Joining::Clash;
     }
-    *up = up_before;
-    *kind = kind_before;
-    Joining::Clash
+    if k == 1 {
+        return Joining::Clash;
+    }
+    let d = k - 2;
+    forest::put_under_root(up, i + 64, graph::part(kids, d, 3));
+    let one = unification::note(left, right, 0, a + 71, graph::part(kids, d, 0));
+    let two = unification::note(left, right, one, i + 71, graph::part(kids, d, 2));
+    unify_kept(
+        up,
+        kind,
+        kids,
+        left,
+        right,
+        two,
+        a + 64,
+        graph::part(kids, d, 1),
+    )
 }
 
 // An APP row: its function is the arrow from its argument to itself.
@@ -159,7 +212,7 @@ fn app_row(
     }
 }
 
-// Takes row i into the state; q and ty are its parameter's nodes. Types come before qualifiers, and qualifiers before bounds: 21 is before
+// Takes row i into the state; the arrays hold the nodes of the parameters. Types come before qualifiers, and qualifiers before bounds: 21 is before
 // 22, and 22 before 23.
 pub fn step(
     parent: &mut [u16; 327],
@@ -171,11 +224,11 @@ pub fn step(
     right: &mut [u16; 704],
     i: usize,
     term: Term,
-    q: usize,
-    ty: usize,
+    qualifiers: &[u8; 64],
+    typerows: &[u16; 64],
 ) -> Verdict
-    requires { ⌜ TypeClasses (now up) (now kind) ⌝ ∗ ⌜ Parts (now kids) ⌝ ∗ ⌜ Classes (now parent) (now bound) ⌝ ∗ ⌜ RowStands i term q ty × Describes (now kids) i term q ty ⌝ ∗ ⌜ Ready i (now kids) (now up) (now kind) (now parent) (now bound) ⌝ }
-    ensures { λ r. ⌜ Stepped i (now (kids .entry)) (now (up .entry)) (now (kind .entry)) (now (parent .entry)) (now (bound .entry)) (now (up .exit)) (now (kind .exit)) (now (parent .exit)) (now (bound .exit)) (RowHolds i term q ty) (RowFits term) r ⌝ }
+    requires { ⌜ TypeClasses (now up) (now kind) ⌝ ∗ ⌜ Parts (now kids) ⌝ ∗ ⌜ Classes (now parent) (now bound) ⌝ ∗ ⌜ RowStands i term (named (now qualifiers) term) (named (now typerows) term) × Describes (now kids) i term (named (now qualifiers) term) (named (now typerows) term) ⌝ ∗ ⌜ Ready i (now kids) (now up) (now kind) (now parent) (now bound) ⌝ }
+    ensures { λ r. ⌜ Stepped i (now (kids .entry)) (now (up .entry)) (now (kind .entry)) (now (parent .entry)) (now (bound .entry)) (now (up .exit)) (now (kind .exit)) (now (parent .exit)) (now (bound .exit)) (RowHolds i term (named (now (qualifiers .entry)) term) (named (now (typerows .entry)) term)) (RowFits term) r ⌝ }
 {
     match term {
         Term::Lam(_, _) => {
@@ -195,9 +248,9 @@ pub fn step(
             a as usize,
         ),
         Term::Op(o, l, r) => op_row(parent, bound, up, kind, i, o, l as usize, r as usize),
-        Term::Var(_) => {
-            forest::put_under_root(up, i + 64, ty);
-            forest::put_under_root(parent, i + 71, q);
+        Term::Var(p) => {
+            forest::put_under_root(up, i + 64, typerows[p as usize] as usize);
+            forest::put_under_root(parent, i + 71, qualifiers[p as usize] as usize);
             Verdict::Fine
         }
         Term::Num(_) => {

@@ -11,7 +11,6 @@ use Rattle.model.specs.WellFormed.{WellFormed, TypeStands, TermStands}
 use Rattle.model.specs.declared.TypeForm.{TypeForm}
 use Rattle.model.specs.declared.TypeForm.the-variants.{Int, Any, Arrow}
 use Rattle.model.specs.declared.TypeRow.{TypeRow}
-use Rattle.model.specs.declared.Param.{Param}
 use Rattle.model.specs.declared.Term.{Term}
 use Rattle.model.specs.declared.Term.the-variants.{Lam, App, Op, Var, Num, Enc}
 use Rattle.graph.specs.Types.{partAt, Parts}
@@ -50,13 +49,13 @@ pub forms-kept-more : (kids kids′ kids″ : List ℕ) (i : ℕ) → FormsKept 
 forms-kept-more kids kids′ kids″ i kept only x j below h = only .others x j (λ e. omega arith) h ∙ kept x j below h
 
 -- What makes the parts of a row's descriptor nodes, from what the row asks.
-pub has-nodes : (param : Param) (i : ℕ) (term : Term) → TermStands 64 i term → (param .qualifier < 71) → (param .typerow < 64) → HasNodes param i term
-has-nodes param i (Lam p b) stands q ty = (stands .1, (omega arith, ty))
-has-nodes param i (App f a) stands q ty = stands
-has-nodes param i (Op o l r) stands q ty = tt
-has-nodes param i (Var p) stands q ty = tt
-has-nodes param i (Num n) stands q ty = tt
-has-nodes param i (Enc s n) stands q ty = tt
+pub has-nodes : (i : ℕ) (term : Term) (q ty : ℕ) → TermStands 64 i term → q < 71 → ty < 64 → HasNodes i term q ty
+has-nodes i (Lam p b) q ty stands hq ht = (stands .0, stands .1, hq, ht)
+has-nodes i (App f a) q ty stands hq ht = stands
+has-nodes i (Op o l r) q ty stands hq ht = tt
+has-nodes i (Var p) q ty stands hq ht = tt
+has-nodes i (Num n) q ty stands hq ht = tt
+has-nodes i (Enc s n) q ty stands hq ht = tt
 
 -- The parameter that a row names has a place, and so has 0, where it names none.
 pub names-place : (count i : ℕ) (term : Term) → count ≤ 64 → TermStands count i term → parameterOf term < 64

@@ -5,17 +5,18 @@ use mathlib.Core.Bool.{Bool, true, false, cond}
 use mathlib.Core.List.{List}
 use mathlib.Core.Path.{_≡_, refl, sym, ap, _∙_}
 use lib.Dec.{ltb}
-use lib.ListN.{length, set, take, length-set, length-take, replicate, length-replicate, getD-replicate}
+use lib.ListN.{length, getD, set, take, length-set, length-take, replicate, length-replicate, getD-replicate, List·getD-eq-default}
 use lib.Seq.{getD-set-same, getD-set-other, getD-take}
 use borrow.Author.Count.{below-none, below-more}
 use borrow.Author.Tests.{lt-ltb, le-ltb, ltb-true, ltb-false}
 use Rattle.forest.proofs.Links.{by-eq}
-use Rattle.model.specs.Machine.{Machine, formIn}
+use Rattle.model.specs.Machine.{Machine, formIn, paramIn}
 use Rattle.model.specs.declared.TypeForm.the-variants.{Int}
 use Rattle.model.specs.declared.TypeRow.{TypeRow}
+use Rattle.model.specs.declared.Param.{Param}
 use Rattle.qualifiers.specs.Classes.{boundAt}
 use Rattle.setup.specs.Started.{formKind, startKind, Started}
-use Rattle.setup.specs.Passes.{SelfRooted, Kinds}
+use Rattle.setup.specs.Passes.{SelfRooted, FirstHold, Kinds}
 
 pub rooted-none : SelfRooted 0 (replicate 327 0)
 rooted-none = record { size = length-replicate {A = ℕ} 327 0; own = below-none _ }
@@ -30,15 +31,16 @@ rooted-more p n h rooted =
           (getD-set-same p n n 0 (omega (arith, rooted .size)));
     }
 
-module _ (types : List TypeRow) where
-  pub kinds-none : Kinds types 0 (replicate 327 0)
-  kinds-none =
+-- The places that hold something, one after the other.
+module _ (f : ℕ → ℕ) (places : ℕ) where
+  pub hold-none : FirstHold f places 0 (replicate places 0)
+  hold-none =
       record {
-        size = length-replicate {A = ℕ} 327 0;
-        kinds = λ x h. getD-replicate {A = ℕ} 327 x 0 0 h ∙ rw (le-ltb x 0 (omega arith)) refl;
+        size = length-replicate {A = ℕ} places 0;
+        at = λ x h. getD-replicate {A = ℕ} places x 0 0 h ∙ rw (le-ltb x 0 (omega arith)) refl;
       }
 
-  -- The test whether a row is among the first, for one more row.
+  -- The test whether a place is among the first, for one more place.
   ltb-more : (x n : ℕ) → (x ≡ n → ⊥) → ltb x (n + 1) ≡ ltb x n
   ltb-more x n other = go (ltb x n) refl
     where
@@ -46,15 +48,25 @@ module _ (types : List TypeRow) where
       go true e = lt-ltb x (n + 1) (omega (arith, ltb-true x n e)) ∙ sym e
       go false e = le-ltb x (n + 1) (omega (arith, ltb-false x n e)) ∙ sym e
 
-  pub kinds-more : (k : List ℕ) (n kind : ℕ) → n < 327 → kind ≡ formKind n (formIn types n) → Kinds types n k → Kinds types (n + 1) (set k n kind)
-  kinds-more k n kind h is kinds =
+  pub hold-more : (l : List ℕ) (n v : ℕ) → n < places → v ≡ f n → FirstHold f places n l → FirstHold f places (n + 1) (set l n v)
+  hold-more l n v h is hold =
       record {
-        size = length-set k n kind ∙ kinds .size;
-        kinds = λ x below.
+        size = length-set l n v ∙ hold .size;
+        at = λ x below.
             by-eq x n
-            (λ e. rw e (getD-set-same k n kind 0 (omega (arith, kinds .size)) ∙ is ∙ rw (lt-ltb n (n + 1) (omega arith)) refl))
-            (λ other. getD-set-other k n x kind 0 other ∙ kinds .kinds x below ∙ rw (ltb-more x n other) refl);
+            (λ e. rw e (getD-set-same l n v 0 (omega (arith, hold .size)) ∙ is ∙ rw (lt-ltb n (n + 1) (omega arith)) refl))
+            (λ other. getD-set-other l n x v 0 other ∙ hold .at x below ∙ rw (ltb-more x n other) refl);
       }
+
+-- A number of each parameter, 0 where none stands, from an array of them.
+pub params-hold : (f : Param → ℕ) (params : List Param) (count : ℕ) (l : List ℕ) → f (record { qualifier = 0; typerow = 0 }) ≡ 0 → FirstHold (λ p. f (paramIn params p)) 64 count l →
+    (p : ℕ) → p < 64 → getD l p 0 ≡ f (paramIn (take count params) p)
+params-hold f params count l none hold p below = hold .at p below ∙ go (ltb p count) refl
+  where
+    go : (t : Bool) → ltb p count ≡ t → cond t (f (paramIn params p)) 0 ≡ f (paramIn (take count params) p)
+    go true e = ap f (sym (getD-take count params p (record { qualifier = 0; typerow = 0 }) (ltb-true p count e)))
+    go false e =
+        sym (ap f (List·getD-eq-default (take count params) (record { qualifier = 0; typerow = 0 }) {n = p} (omega (arith, length-take count params, ltb-false p count e))) ∙ none)
 
 module _ (types : List TypeRow) (count : ℕ) {u k p b : List ℕ} where
   pub started :
@@ -64,7 +76,7 @@ module _ (types : List TypeRow) (count : ℕ) {u k p b : List ℕ} where
       record {
         sizes = (u-roots .size, kinds .size, p-roots .size, ap length unrestricted ∙ length-replicate {A = ℕ} 327 6);
         type-roots = u-roots .own;
-        kinds = λ x h. kinds .kinds x h ∙ same x;
+        kinds = λ x h. kinds .at x h ∙ same x;
         qualifier-roots = p-roots .own;
         bounds = λ x h. ap (λ (l : List ℕ). boundAt l x) unrestricted ∙ getD-replicate {A = ℕ} 327 x 6 0 h;
       }

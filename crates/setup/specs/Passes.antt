@@ -26,14 +26,19 @@ DescribesForm kids x Int = Unit {0}
 DescribesForm kids x Any = Unit {0}
 DescribesForm kids x (Arrow q a q′ b) = HasParts kids x q a q′ b
 
--- What makes the parts of a term row's descriptor nodes: a LAM and an APP name rows below their own, and a LAM a parameter that stands.
-abbrev pub HasNodes : Param → ℕ → Term → Type 0
-HasNodes param i (Lam p b) = (b < i) × ParamStands 64 param
-HasNodes param i (App f a) = (f < i) × (a < i)
-HasNodes param i (Op o l r) = Unit {0}
-HasNodes param i (Var p) = Unit {0}
-HasNodes param i (Num n) = Unit {0}
-HasNodes param i (Enc s n) = Unit {0}
+-- What makes the parts of a term row's descriptor nodes: a LAM and an APP name rows below their own, and a LAM a parameter with nodes q and ty.
+abbrev pub HasNodes : ℕ → Term → ℕ → ℕ → Type 0
+HasNodes i (Lam p b) q ty = (p < 64) × (b < i) × (q < 71) × (ty < 64)
+HasNodes i (App f a) q ty = (f < i) × (a < i)
+HasNodes i (Op o l r) q ty = Unit {0}
+HasNodes i (Var p) q ty = Unit {0}
+HasNodes i (Num n) q ty = Unit {0}
+HasNodes i (Enc s n) q ty = Unit {0}
+
+-- The lists hold the parameters' nodes.
+pub record ParamsNoted (params : List Param) (q ty : List ℕ) : Type 0 where
+  pub qualifier : (p : ℕ) → p < 64 → getD q p 0 ≡ paramIn params p .qualifier
+  pub typerow : (p : ℕ) → p < 64 → getD ty p 0 ≡ paramIn params p .typerow
 
 abbrev pub FormsStand : List TypeRow → ℕ → Type 0
 FormsStand types count = (x : ℕ) → x < count → TypeStands x (formIn types x)
@@ -56,7 +61,11 @@ pub record SelfRooted (count : ℕ) (p : List ℕ) : Type 0 where
   pub size : length p ≡ 327
   pub own : (x : ℕ) → x < count → up p x ≡ x
 
+-- The first `count` of so many places hold what f says, and the others 0.
+pub record FirstHold (f : ℕ → ℕ) (places count : ℕ) (l : List ℕ) : Type 0 where
+  pub size : length l ≡ places
+  pub at : (x : ℕ) → x < places → getD l x 0 ≡ cond (ltb x count) (f x) 0
+
 -- The first type rows have their kinds.
-pub record Kinds (types : List TypeRow) (count : ℕ) (k : List ℕ) : Type 0 where
-  pub size : length k ≡ 327
-  pub kinds : (x : ℕ) → x < 327 → kindAt k x ≡ cond (ltb x count) (formKind x (formIn types x)) 0
+abbrev pub Kinds : List TypeRow → ℕ → List ℕ → Type 0
+Kinds types count k = FirstHold (λ x. formKind x (formIn types x)) 327 count k

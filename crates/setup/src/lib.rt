@@ -9,10 +9,10 @@ ghost use lib.ListN.{take};
 ghost use Rattle.model.specs.Machine.{Machine};
 ghost use Rattle.model.specs.WellFormed.{TypeStands};
 ghost use Rattle.graph.specs.Types.{Parts};
-ghost use Rattle.readings.specs.Nodes.{parameterOf};
+ghost use Rattle.readings.specs.Nodes.{named};
 ghost use Rattle.setup.specs.Descriptors.{HasParts, Describes};
 ghost use Rattle.setup.specs.Started.{formKind, Started};
-ghost use Rattle.setup.specs.Passes.{DescribesForm, HasNodes, FormsStand, Only, FormsDescribed, SelfRooted, Kinds};
+ghost use Rattle.setup.specs.Passes.{DescribesForm, HasNodes, FormsStand, Only, FormsDescribed, ParamsNoted, SelfRooted, Kinds};
 
 // Writes descriptor d: the argument's qualifier and type node, then the result's.
 fn write(
@@ -68,35 +68,43 @@ pub fn describe_forms(types: [TypeRow; 64], count: usize, kids: &mut [u16; 1280]
     }
 }
 
-// The parameter that a row names; 0 where it names none.
-pub fn parameter(term: Term) -> usize
-    ensures { λ r. ⌜ r ≡ parameterOf term ⌝ }
+// Notes the nodes of the parameters in plain arrays, which a row reads without a copy: 0 for those that do not stand.
+pub fn note_params(
+    params: [Param; 64],
+    count: usize,
+    qualifiers: &mut [u8; 64],
+    typerows: &mut [u16; 64],
+)
+    requires { ⌜ count ≤ 64 ⌝ }
+    ensures { λ _. ⌜ ParamsNoted (take count params) (now (qualifiers .exit)) (now (typerows .exit)) ⌝ }
 {
-    match term {
-        Term::Lam(p, _) => p as usize,
-        Term::App(_, _) => 0,
-        Term::Op(_, _, _) => 0,
-        Term::Var(p) => p as usize,
-        Term::Num(_) => 0,
-        Term::Enc(_, _) => 0,
+    *qualifiers = [0; 64];
+    *typerows = [0; 64];
+    let mut p = 0;
+    while p < count {
+        let param = params[p];
+        qualifiers[p] = param.qualifier;
+        typerows[p] = param.typerow;
+        p += 1;
     }
 }
 
-// Writes the descriptor of a term row, if it is a LAM, whose parameter is given, or an APP.
-pub fn describe_term(term: Term, i: usize, param: Param, kids: &mut [u16; 1280])
-    requires { ⌜ Parts (now kids) ⌝ ∗ ⌜ (i < 256) × HasNodes param i term ⌝ }
-    ensures { λ _. ⌜ Only (i + 64) (now (kids .entry)) (now (kids .exit)) × Describes (now (kids .exit)) i term (param .qualifier) (param .typerow) ⌝ }
+// Writes the descriptor of a term row, if it is a LAM or an APP; the arrays hold the nodes of the parameters.
+pub fn describe_term(
+    term: Term,
+    i: usize,
+    qualifiers: &[u8; 64],
+    typerows: &[u16; 64],
+    kids: &mut [u16; 1280],
+)
+    requires { ⌜ Parts (now kids) ⌝ ∗ ⌜ (i < 256) × HasNodes i term (named (now qualifiers) term) (named (now typerows) term) ⌝ }
+    ensures { λ _. ⌜ Only (i + 64) (now (kids .entry)) (now (kids .exit)) × Describes (now (kids .exit)) i term (named (now (qualifiers .entry)) term) (named (now (typerows .entry)) term) ⌝ }
 {
     match term {
-        Term::Lam(_, body) => {
-            write(
-                kids,
-                i + 64,
-                param.qualifier as u16,
-                param.typerow,
-                body + 71,
-                body + 64,
-            );
+        Term::Lam(p, body) => {
+            let q = qualifiers[p as usize] as u16;
+            let ty = typerows[p as usize];
+            write(kids, i + 64, q, ty, body + 71, body + 64);
         }
         Term::App(_, argument) => {
             let own = i as u16;

@@ -2,57 +2,63 @@
 use Prim.Native.Nat.{ℕ, _+_, _<_}
 use native.Mathlib.Omega.{arith}
 use mathlib.Core.List.{List}
-use mathlib.Core.Path.{_≡_, sym, subst, subst₂}
-use lib.ListN.{length, take}
-use Rattle.model.specs.Machine.{Machine, paramIn, termIn, paramAt, termAt}
+use mathlib.Core.Path.{_≡_, sym, ap, subst, subst₂, _∙_}
+use lib.ListN.{length}
+use Rattle.model.specs.Machine.{Machine, termIn, paramAt, termAt}
 use Rattle.model.specs.Typing.{Ty}
 use Rattle.model.specs.Strength.{six}
 use Rattle.model.specs.Inference.{Refusal}
-use Rattle.model.specs.declared.Param.{Param}
 use Rattle.model.specs.declared.Term.{Term}
 use Rattle.model.specs.declared.TermRow.{TermRow}
 use Rattle.graph.specs.Types.{Parts, Reads}
-use Rattle.readings.specs.Nodes.{RowHolds, RowFits, parameterOf}
+use Rattle.readings.specs.Nodes.{RowHolds, RowFits, parameterOf, named}
+use Rattle.setup.specs.Descriptors.{rowQualifier, rowTyperow}
+use Rattle.setup.proofs.Descriptors.{names-place}
 use Rattle.rows.specs.Steps.{Ready, Stepped}
 use Rattle.rows.specs.declared.Verdict.{Verdict}
 use Rattle.solver.specs.State.{After}
-use Rattle.solver.specs.Runs.{Fails, Halts, Finishes, RowsOf, RunFrom, Ran}
+use Rattle.solver.specs.Runs.{Fails, Halts, Finishes, RowsOf, RowReady, RunFrom, Ran}
 use Rattle.solver.specs.declared.Run.{Run}
 use Rattle.solver.specs.declared.Run.the-variants.{Whole, Least, Stopped}
 use Rattle.solver.proofs.Progress.{Row, Limit, after-more}
 use Rattle.solver.proofs.Ready.{refusal-of}
 use Rattle.solver.proofs.Stops.{AllFinite, Readable, fails-shapes, fails-apart, fails-bounds, cyclic, finite-unordered, broken-whole, finite-whole, read-whole, clash-row, apart-row, apart-cyclic, apart-finite, clash-before, apart-before, broken-before}
 
--- The rule of row i, from the row's term and the parameter that it names.
-abbrev RowOf : ℕ → Term → Param → (ℕ → Ty ℕ) → (ℕ → ℕ) → Type 0
-RowOf i term param = RowHolds i term (param .qualifier) (param .typerow)
-
 -- The turn of row i: its descriptor is written, and the state is the one after the rows before it.
-pub record Turn (params : List Param) (count : ℕ) (terms : List TermRow) (rows : ℕ) (kids₀ u₀ k₀ p₀ b₀ kids u k p b : List ℕ) (i : ℕ) (param : Param) : Type 0 where
+pub record Turn (qs tys : List ℕ) (terms : List TermRow) (rows : ℕ) (kids₀ u₀ k₀ p₀ b₀ kids u k p b : List ℕ) (i : ℕ) : Type 0 where
   pub below : i < rows
-  pub named : param ≡ paramIn (take count params) (parameterOf (termIn terms i))
+  pub stands : RowReady qs tys terms i
   pub parts : Parts kids
   pub ready : Ready i kids u k p b
-  pub after : (m : Machine) → RowsOf m params count terms rows → After m kids₀ u₀ k₀ p₀ b₀ 0 → After m kids u k p b i
+  pub after : (m : Machine) → RowsOf m qs tys terms rows → After m kids₀ u₀ k₀ p₀ b₀ 0 → After m kids u k p b i
 
-module _ {params : List Param} {count : ℕ} {terms : List TermRow} {rows : ℕ} {kids₀ u₀ k₀ p₀ b₀ kids u k p b : List ℕ} {i : ℕ} {param : Param}
-    (turn : Turn params count terms rows kids₀ u₀ k₀ p₀ b₀ kids u k p b i param) where
+module _ {qs tys : List ℕ} {terms : List TermRow} {rows : ℕ} {kids₀ u₀ k₀ p₀ b₀ kids u k p b : List ℕ} {i : ℕ}
+    (turn : Turn qs tys terms rows kids₀ u₀ k₀ p₀ b₀ kids u k p b i) where
   -- The step of the array's row.
   abbrev Step : (u′ k′ p′ b′ : List ℕ) → Verdict → Type 0
-  Step u′ k′ p′ b′ r = Stepped i kids u k p b u′ k′ p′ b′ (RowOf i (termIn terms i) param) (RowFits (termIn terms i)) r
+  Step u′ k′ p′ b′ r = Stepped i kids u k p b u′ k′ p′ b′ (RowHolds i (termIn terms i) (named qs (termIn terms i)) (named tys (termIn terms i))) (RowFits (termIn terms i)) r
 
-  module _ (m : Machine) (of : RowsOf m params count terms rows) where
+  module _ (m : Machine) (of : RowsOf m qs tys terms rows) where
     in-list : i < length (m .terms)
     in-list = of .same-term i (turn .below) .0
 
-    -- The parameter is the one that the machine's row names.
-    at-parameter : param ≡ paramAt m (parameterOf (termAt m i))
-    at-parameter = rw (of .same-params, of .same-term i (turn .below) .1) (turn .named)
+    -- The nodes are those of the parameter that the machine's row names.
+    place : parameterOf (termIn terms i) < 64
+    place = names-place 64 i (termIn terms i) (omega arith) (turn .stands .stands)
+
+    same-qualifier : named qs (termIn terms i) ≡ rowQualifier m i
+    same-qualifier =
+        of .noted .qualifier (parameterOf (termIn terms i)) place ∙ ap (λ (term : Term). paramAt m (parameterOf term) .qualifier) (sym (of .same-term i (turn .below) .1))
+
+    same-typerow : named tys (termIn terms i) ≡ rowTyperow m i
+    same-typerow =
+        of .noted .typerow (parameterOf (termIn terms i)) place ∙ ap (λ (term : Term). paramAt m (parameterOf term) .typerow) (sym (of .same-term i (turn .below) .1))
 
     -- The step of the array's row is that of the machine's row.
     at-machine : (u′ k′ p′ b′ : List ℕ) (r : Verdict) → Step u′ k′ p′ b′ r → Stepped i kids u k p b u′ k′ p′ b′ (Row m i) (Limit m i) r
-    at-machine u′ k′ p′ b′ r =
-        subst₂ (λ (term : Term) (named : Param). Stepped i kids u k p b u′ k′ p′ b′ (RowOf i term named) (RowFits term) r) (sym (of .same-term i (turn .below) .1)) at-parameter
+    at-machine u′ k′ p′ b′ r step =
+        subst (λ (term : Term). Stepped i kids u k p b u′ k′ p′ b′ (RowHolds i term (rowQualifier m i) (rowTyperow m i)) (RowFits term) r) (sym (of .same-term i (turn .below) .1))
+        (subst₂ (λ (q ty : ℕ). Stepped i kids u k p b u′ k′ p′ b′ (RowHolds i (termIn terms i) q ty) (RowFits (termIn terms i)) r) same-qualifier same-typerow step)
 
     -- A run that ends at the row: where every type is finite the types before it have a reading, and else none has.
     halted : (after : After m kids u k p b i) (u′ k′ p′ b′ : List ℕ) (number : ℕ) (r : Run) →
@@ -67,12 +73,12 @@ module _ {params : List Param} {count : ℕ} {terms : List TermRow} {rows : ℕ}
     halted after u′ k′ p′ b′ number (Stopped n row) finite none (e, at, unread) = (rw at (turn .below), subst₂ (Fails m) (sym e) (sym at) (none unread))
 
   pub went-on : (u′ k′ p′ b′ : List ℕ) → Step u′ k′ p′ b′ Verdict.Fine →
-      (m : Machine) → RowsOf m params count terms rows → After m kids₀ u₀ k₀ p₀ b₀ 0 → After m kids u′ k′ p′ b′ (i + 1)
+      (m : Machine) → RowsOf m qs tys terms rows → After m kids₀ u₀ k₀ p₀ b₀ 0 → After m kids u′ k′ p′ b′ (i + 1)
   went-on u′ k′ p′ b′ step m of start =
       after-more m kids u k p b u′ k′ p′ b′ i (in-list m of) (turn .after m of start) (at-machine m of u′ k′ p′ b′ Verdict.Fine step .0)
 
   -- The types clash, and nothing is known of the state after.
-  pub stopped-lost : Step u k p b Verdict.Lost → RunFrom params count terms kids₀ u₀ k₀ p₀ b₀ kids u k p b rows (Stopped 21 i)
+  pub stopped-lost : Step u k p b Verdict.Lost → RunFrom qs tys terms kids₀ u₀ k₀ p₀ b₀ kids u k p b rows (Stopped 21 i)
   stopped-lost step m of start =
       let clash = at-machine m of u k p b Verdict.Lost step in
       (turn .below, fails-shapes m (i + 1) (clash-row (of .well-formed) (in-list m of) (turn .after m of start) clash))
@@ -80,7 +86,7 @@ module _ {params : List Param} {count : ℕ} {terms : List TermRow} {rows : ℕ}
   module _ (u′ k′ p′ b′ : List ℕ) where
     -- What a run that ends at the row says.
     abbrev Ends : Run → Type 0
-    Ends r = RunFrom params count terms kids₀ u₀ k₀ p₀ b₀ kids u′ k′ p′ b′ rows r
+    Ends r = RunFrom qs tys terms kids₀ u₀ k₀ p₀ b₀ kids u′ k′ p′ b′ rows r
 
     pub stopped-shapes : (r : Run) → Step u′ k′ p′ b′ Verdict.Shapes → Halts u′ k′ kids 21 i r → Ends r
     stopped-shapes r step halts m of start =
@@ -112,7 +118,7 @@ module _ {params : List Param} {count : ℕ} {terms : List TermRow} {rows : ℕ}
         halts
 
 -- The test at the end.
-module _ {params : List Param} {count : ℕ} {terms : List TermRow} {rows : ℕ} {m : Machine} (of : RowsOf m params count terms rows)
+module _ {qs tys : List ℕ} {terms : List TermRow} {rows : ℕ} {m : Machine} (of : RowsOf m qs tys terms rows)
     {kids u k p b : List ℕ} (parts : Parts kids) (ready : Ready rows kids u k p b) (after : After m kids u k p b rows) where
   pub ran-out : (r : Run) → Finishes u k kids rows r → Ran m kids u k p b rows r
   ran-out Whole all = (

@@ -4,7 +4,7 @@ use native.Mathlib.Omega.{arith}
 use native.Mathlib.Decide.{decLt}
 use mathlib.Core.List.{List}
 use mathlib.Core.Path.{_≡_, refl, sym, ap, subst, subst₂}
-use lib.ListN.{length, getD, take, length-take, List·getD-eq-default}
+use lib.ListN.{length, take, length-take, List·getD-eq-default}
 use lib.Seq.{getD-take}
 use Rattle.model.specs.Machine.{Machine, paramAt, termAt}
 use Rattle.model.specs.WellFormed.{WellFormed, TermStands}
@@ -17,9 +17,11 @@ use Rattle.model.specs.declared.Param.{Param}
 use Rattle.model.specs.declared.Term.{Term}
 use Rattle.model.specs.declared.Term.the-variants.{Lam, App, Op, Var, Num, Enc}
 use Rattle.model.specs.declared.TermRow.{TermRow}
-use Rattle.readings.specs.Nodes.{parameterOf}
+use Rattle.readings.specs.Nodes.{parameterOf, named}
 use Rattle.readings.proofs.Lines.{lines-typable}
 use Rattle.setup.specs.Descriptors.{machineOf, rowQualifier, rowTyperow}
+use Rattle.setup.specs.Passes.{ParamsNoted}
+use Rattle.setup.proofs.Descriptors.{names-place}
 use Rattle.rows.specs.Rows.{RowStands}
 use Rattle.solver.specs.Runs.{Fails, RowsOf, RowReady, Ran}
 use Rattle.solver.specs.declared.Run.the-variants.{Whole}
@@ -29,13 +31,13 @@ pub run-none : (m : Machine) (kids u k p b : List ℕ) (rows : ℕ) → WellForm
 run-none m kids u k p b rows wf e = (subst (λ (n : ℕ). Typable (whole six) m n) (sym e) (lines-typable m wf), λ some. absurd (some e))
 
 -- The first rows of the arrays are the machine's.
-pub rows-of : (types : List TypeRow) (typecount : ℕ) (params : List Param) (paramcount : ℕ) (terms : List TermRow) (termcount rows : ℕ) →
-    WellFormed (machineOf types typecount params paramcount terms termcount) → length terms ≡ 256 → termcount ≤ 256 → rows ≤ termcount →
-    RowsOf (machineOf types typecount params paramcount terms termcount) params paramcount terms rows
-rows-of types typecount params paramcount terms termcount rows wf size few most =
+pub rows-of : (types : List TypeRow) (typecount : ℕ) (params : List Param) (paramcount : ℕ) (terms : List TermRow) (termcount rows : ℕ) {q ty : List ℕ} →
+    WellFormed (machineOf types typecount params paramcount terms termcount) → length terms ≡ 256 → termcount ≤ 256 → rows ≤ termcount → ParamsNoted (take paramcount params) q ty →
+    RowsOf (machineOf types typecount params paramcount terms termcount) q ty terms rows
+rows-of types typecount params paramcount terms termcount rows wf size few most noted =
     record {
       well-formed = wf;
-      same-params = refl;
+      noted = noted;
       same-term = λ i below. (
         rw (length-take termcount terms) (omega arith),
         ap (λ (row : TermRow). row .term) (getD-take termcount terms i (record { term = Lam 0 0 }) (omega arith)),
@@ -71,16 +73,13 @@ module _ {m : Machine} (wf : WellFormed m) where
         type-node = param-nodes (parameterOf (termAt m i)) .1;
       }
 
-  pub row-ready : {params : List Param} {count : ℕ} {terms : List TermRow} {rows : ℕ} → RowsOf m params count terms rows →
-      (i : ℕ) → i < rows → RowReady params count terms i
-  row-ready of i below =
+  pub row-ready : {q ty : List ℕ} {terms : List TermRow} {rows : ℕ} → RowsOf m q ty terms rows → (i : ℕ) → i < rows → RowReady q ty terms i
+  row-ready {q} {ty} of i below =
       let in-list = of .same-term i below .0 in
-      subst₂
-      (λ (term : Term) (ps : List Param).
-      RowStands i term (getD ps (parameterOf term) (record { qualifier = 0; typerow = 0 }) .qualifier) (getD ps (parameterOf term) (record { qualifier = 0; typerow = 0 }) .typerow))
-      (of .same-term i below .1)
-      (of .same-params)
-      (row-stands i in-list)
+      let row = row-stands i in-list in
+      let place = names-place 64 i (termAt m i) (omega arith) (row .stands) in
+      subst (λ (term : Term). RowStands i term (named q term) (named ty term)) (of .same-term i below .1)
+      (subst₂ (RowStands i (termAt m i)) (sym (of .noted .qualifier (parameterOf (termAt m i)) place)) (sym (of .noted .typerow (parameterOf (termAt m i)) place)) row)
 
 -- A row below the count is in the machine's list.
 pub in-terms : (terms : List TermRow) (termcount row : ℕ) → length terms ≡ 256 → termcount ≤ 256 → row < termcount → row < length (take termcount terms)

@@ -3,19 +3,19 @@ use Prim.Native.Nat.{ℕ, _+_, _<_}
 use mathlib.Core.Bool.{true}
 use mathlib.Core.List.{List}
 use mathlib.Core.Path.{_≡_}
-use lib.ListN.{length, take}
+use lib.ListN.{length}
 use Rattle.scheme.specs.Order.{atOrBelow}
-use Rattle.model.specs.Machine.{Machine, paramIn, termIn, termAt}
+use Rattle.model.specs.Machine.{Machine, termIn, termAt}
 use Rattle.model.specs.WellFormed.{WellFormed}
 use Rattle.model.specs.Typing.{Ty, Typable}
 use Rattle.model.specs.Strength.{whole, six}
 use Rattle.model.specs.Inference.{Cause, Refusal, Accepted}
-use Rattle.model.specs.declared.Param.{Param}
 use Rattle.model.specs.declared.TermRow.{TermRow}
 use Rattle.graph.specs.Types.{Reads}
 use Rattle.graph.specs.Search.{Finite}
 use Rattle.qualifiers.specs.Classes.{boundAt}
-use Rattle.readings.specs.Nodes.{parameterOf}
+use Rattle.readings.specs.Nodes.{named}
+use Rattle.setup.specs.Passes.{ParamsNoted}
 use Rattle.rows.specs.Rows.{RowStands}
 use Rattle.report.specs.Codes.{Codes, wordOf, shapeOf}
 use Rattle.report.specs.Written.{Matches}
@@ -53,21 +53,20 @@ Ran m kids u k p b rows Whole = Typable (whole six) m rows × ((rows ≡ 0 → �
 Ran m kids u k p b rows (Least number row) = (row < rows) × Refusal six m number row
 Ran m kids u k p b rows (Stopped number row) = (row < rows) × Fails m number row
 
--- The arrays hold the machine's parameters and its first rows.
-pub record RowsOf (m : Machine) (params : List Param) (count : ℕ) (terms : List TermRow) (rows : ℕ) : Type 0 where
+-- The arrays hold the nodes of the machine's parameters, and its first rows.
+pub record RowsOf (m : Machine) (q ty : List ℕ) (terms : List TermRow) (rows : ℕ) : Type 0 where
   pub well-formed : WellFormed m
-  pub same-params : m .params ≡ take count params
+  pub noted : ParamsNoted (m .params) q ty
   pub same-term : (i : ℕ) → i < rows → (i < length (m .terms)) × (termAt m i ≡ termIn terms i)
 
--- What each of the first rows asks of its nodes, and the place of the parameter that it names.
-abbrev pub RowReady : List Param → ℕ → List TermRow → ℕ → Type 0
-RowReady params count terms i =
-    RowStands i (termIn terms i) (paramIn (take count params) (parameterOf (termIn terms i)) .qualifier) (paramIn (take count params) (parameterOf (termIn terms i)) .typerow)
+-- What each of the first rows asks of its nodes.
+abbrev pub RowReady : List ℕ → List ℕ → List TermRow → ℕ → Type 0
+RowReady q ty terms i = RowStands i (termIn terms i) (named q (termIn terms i)) (named ty (termIn terms i))
 
 -- A run from a state that stands for no rows yet, for every machine that the arrays hold.
-abbrev pub RunFrom : (params : List Param) (count : ℕ) (terms : List TermRow) (kids₀ u₀ k₀ p₀ b₀ kids u k p b : List ℕ) (rows : ℕ) → Run → Type 0
-RunFrom params count terms kids₀ u₀ k₀ p₀ b₀ kids u k p b rows r =
-    (m : Machine) → RowsOf m params count terms rows → After m kids₀ u₀ k₀ p₀ b₀ 0 → Ran m kids u k p b rows r
+abbrev pub RunFrom : (q ty : List ℕ) (terms : List TermRow) (kids₀ u₀ k₀ p₀ b₀ kids u k p b : List ℕ) (rows : ℕ) → Run → Type 0
+RunFrom q ty terms kids₀ u₀ k₀ p₀ b₀ kids u k p b rows r =
+    (m : Machine) → RowsOf m q ty terms rows → After m kids₀ u₀ k₀ p₀ b₀ 0 → Ran m kids u k p b rows r
 
 -- Refused at the least row.
 abbrev pub Refuses : Machine → Answer → Type 0

@@ -1,6 +1,5 @@
 // The solver: rows in turn, and the least row that leaves no typing.
 use model::Param;
-use model::Term;
 use model::TermRow;
 use model::TypeRow;
 use rows::Verdict;
@@ -34,40 +33,6 @@ pub enum Answer {
     Refused(u8, usize),
 }
 
-// The parameter read at place p, where p is below the count; PLAIN with type row 0 elsewhere.
-fn standing(param: Param, p: usize, count: usize) -> Param
-    ensures { λ r. ⌜ ((params : List Param) → param ≡ paramIn params p → r ≡ paramIn (take count params) p) ⌝ }
-{
-    if p < count {
-        return param;
-    }
-    Param {
-        qualifier: 0,
-        typerow: 0,
-    }
-}
-
-// Takes row i into the state, with the nodes of the parameter that it names.
-fn take_row(
-    param: Param,
-    term: Term,
-    i: usize,
-    parent: &mut [u16; 327],
-    bound: &mut [u8; 327],
-    up: &mut [u16; 327],
-    kind: &mut [u16; 327],
-    kids: &[u16; 1280],
-    left: &mut [u16; 704],
-    right: &mut [u16; 704],
-) -> Verdict
-    requires { ⌜ TypeClasses (now up) (now kind) ⌝ ∗ ⌜ Parts (now kids) ⌝ ∗ ⌜ Classes (now parent) (now bound) ⌝ ∗ ⌜ RowStands i term (param .qualifier) (param .typerow) × Describes (now kids) i term (param .qualifier) (param .typerow) ⌝ ∗ ⌜ Ready i (now kids) (now up) (now kind) (now parent) (now bound) ⌝ }
-    ensures { λ r. ⌜ Stepped i (now (kids .entry)) (now (up .entry)) (now (kind .entry)) (now (parent .entry)) (now (bound .entry)) (now (up .exit)) (now (kind .exit)) (now (parent .exit)) (now (bound .exit)) (RowHolds i term (param .qualifier) (param .typerow)) (RowFits term) r ⌝ }
-{
-    let q = param.qualifier as usize;
-    let ty = param.typerow as usize;
-    rows::step(parent, bound, up, kind, kids, left, right, i, term, q, ty)
-}
-
 // The end of a run at a row that leaves no typing: where every type is finite the rows before it have one, and else a type contains itself.
 fn stop(up: &[u16; 327], kind: &[u16; 327], kids: &[u16; 1280], number: u8, row: usize) -> Run
     requires { ⌜ TypeClasses (now up) (now kind) ⌝ ∗ ⌜ Parts (now kids) ⌝ ∗ ⌜ (row < 256) × Unused (row + 1 + 64) (now up) (now kind) (now kids) ⌝ }
@@ -94,8 +59,8 @@ fn finish(up: &[u16; 327], kind: &[u16; 327], kids: &[u16; 1280], rows: usize) -
 
 // Takes the first `rows` rows in turn into a state that stands for none yet. A row's descriptor is written when its turn comes.
 fn take_rows(
-    params: [Param; 64],
-    paramcount: usize,
+    qualifiers: &[u8; 64],
+    typerows: &[u16; 64],
     terms: [TermRow; 256],
     rows: usize,
     parent: &mut [u16; 327],
@@ -106,19 +71,27 @@ fn take_rows(
     left: &mut [u16; 704],
     right: &mut [u16; 704],
 ) -> Run
-    requires { ⌜ (0 < rows) × (rows ≤ 256) × ((i : ℕ) → i < rows → RowReady params paramcount terms i) ⌝ ∗ ⌜ TypeClasses (now up) (now kind) ⌝ ∗ ⌜ Parts (now kids) ⌝ ∗ ⌜ Classes (now parent) (now bound) ⌝ ∗ ⌜ Ready 0 (now kids) (now up) (now kind) (now parent) (now bound) ⌝ }
-    ensures { λ r. ⌜ RunFrom params paramcount terms (now (kids .entry)) (now (up .entry)) (now (kind .entry)) (now (parent .entry)) (now (bound .entry)) (now (kids .exit)) (now (up .exit)) (now (kind .exit)) (now (parent .exit)) (now (bound .exit)) rows r ⌝ ∗ ⌜ Parts (now (kids .exit)) × FormsKept (now (kids .entry)) (now (kids .exit)) ⌝ }
+    requires { ⌜ (0 < rows) × (rows ≤ 256) × ((i : ℕ) → i < rows → RowReady (now qualifiers) (now typerows) terms i) ⌝ ∗ ⌜ TypeClasses (now up) (now kind) ⌝ ∗ ⌜ Parts (now kids) ⌝ ∗ ⌜ Classes (now parent) (now bound) ⌝ ∗ ⌜ Ready 0 (now kids) (now up) (now kind) (now parent) (now bound) ⌝ }
+    ensures { λ r. ⌜ RunFrom (now (qualifiers .entry)) (now (typerows .entry)) terms (now (kids .entry)) (now (up .entry)) (now (kind .entry)) (now (parent .entry)) (now (bound .entry)) (now (kids .exit)) (now (up .exit)) (now (kind .exit)) (now (parent .exit)) (now (bound .exit)) rows r ⌝ ∗ ⌜ Parts (now (kids .exit)) × FormsKept (now (kids .entry)) (now (kids .exit)) ⌝ }
 {
     let mut i: usize = 0;
     while i < rows {
         let row = terms[i];
         let term = row.term;
-        let p = setup::parameter(term);
-        // read here: to pass the array on would copy it for every row
-        let named = params[p];
-        let param = standing(named, p, paramcount);
-        setup::describe_term(term, i, param, kids);
-        match take_row(param, term, i, parent, bound, up, kind, kids, left, right) {
+        setup::describe_term(term, i, qualifiers, typerows, kids);
+        match rows::step(
+            parent,
+            bound,
+            up,
+            kind,
+            kids,
+            left,
+            right,
+            i,
+            term,
+            qualifiers,
+            typerows,
+        ) {
             Verdict::Fine => {
                 i += 1;
             }
@@ -162,10 +135,13 @@ fn run_rows(
     if rows == 0 {
         return Run::Whole;
     }
+    let mut qualifiers = [0u8; 64];
+    let mut typerows = [0u16; 64];
+    setup::note_params(params, paramcount, &mut qualifiers, &mut typerows);
     setup::start(types, typecount, parent, bound, up, kind);
     take_rows(
-        params,
-        paramcount,
+        &qualifiers,
+        &typerows,
         terms,
         rows,
         parent,

@@ -44,12 +44,6 @@ module _ {kids p k p₁ k₁ : List ℕ} {E F : Equation} (reduced : Reduced kid
         outof = λ t v reads alike. let f = rest .outof t v reads alike in let g = reduced .outof t v (f .0) (f .2) in (g .0, f .1, g .1);
       }
 
-  pub answered-after : ((t : ℕ → Ty ℕ) → Reads p₁ k₁ kids t (λ x. 0) → Reads p k kids t (λ x. 0))
-      → (r : Joining) → Answered kids p₁ k₁ left right p′ k′ left′ right′ n F r → Answered kids p k left right p′ k′ left′ right′ n E r
-  answered-after back (Pairs n′) rest = joined-after rest
-  answered-after back Clash rest = (clashes-after reduced (rest .0), intact-after back (rest .1))
-  answered-after back Lost rest = clashes-after reduced rest
-
   pub answered-losing : (r : Joining) → Answered kids p₁ k₁ left right p′ k′ left′ right′ n F r → Answered kids p k left right p′ k′ left′ right′ n E (losing r)
   answered-losing (Pairs n′) rest = joined-after rest
   answered-losing Clash rest = clashes-after reduced (rest .0)
@@ -136,15 +130,6 @@ module _ {kids p k p₁ : List ℕ} {x r : ℕ} (at : AtRoot p k p₁ x r) where
         fewer = at .fewer;
         into = λ t v reads _. (at .into reads .0, tt);
         outof = λ t v reads _. let f = at .outof reads in (f .0, cc (f .1, reads .ints r (at .node) one));
-      }
-
-  pub known-arrow : (d : ℕ) → 2 ≤ kindAt k r → Reduced kids p k p₁ k (IsArrow kids x d) (SameArrow kids (kindAt k r - 2) d)
-  known-arrow d two =
-      record {
-        classes = at .classes;
-        fewer = at .fewer;
-        into = λ t v reads e. let f = at .into reads in (f .0, cc (f .1, f .0 .arrows r (at .node) two));
-        outof = λ t v reads e. let f = at .outof reads in (f .0, cc (f .1, reads .arrows r (at .node) two));
       }
 
   clash-int : 2 ≤ kindAt k r → Clashes kids p k (IsInt x)

@@ -4,7 +4,7 @@ ghost use Prim.Native.Nat.{ℕ, _+_, _*_, _<_, _≤_};
 ghost use lib.ListN.{length, set};
 ghost use Rattle.forest.specs.Forest.{Forest};
 ghost use Rattle.forest.specs.Pairs.{Pairs};
-ghost use Rattle.graph.specs.Types.{Parts, TypeClasses, Room, roots, Same, IsArrow};
+ghost use Rattle.graph.specs.Types.{Parts, TypeClasses, Room, roots, Same};
 ghost use Rattle.graph.specs.Unused.{Within};
 ghost use Rattle.unification.specs.Answers.{Answered, Confined, losing};
 ghost use Rattle.unification.specs.Merging.{TwoRoots, SameArrow, Merged, Local, MadeInt};
@@ -190,30 +190,4 @@ pub fn make_int(up: &mut [u16; 327], kind: &mut [u16; 327], x: usize) -> bool
         return true;
     }
     k == 1
-}
-
-// Makes a node the arrow of descriptor d: an unknown one becomes it, an arrow is unified with it part by part.
-pub fn make_arrow(
-    up: &mut [u16; 327],
-    kind: &mut [u16; 327],
-    kids: &[u16; 1280],
-    left: &mut [u16; 704],
-    right: &mut [u16; 704],
-    n: usize,
-    x: usize,
-    d: usize,
-) -> Joining
-    requires { ⌜ TypeClasses (now up) (now kind) ⌝ ∗ ⌜ Parts (now kids) ⌝ ∗ ⌜ Room (now up) (now left) (now right) n ⌝ ∗ ⌜ (n + 2 ≤ 50) × (x < 327) × (d < 320) ⌝ }
-    ensures { λ r. ⌜ Answered (now (kids .entry)) (now (up .entry)) (now (kind .entry)) (now (left .entry)) (now (right .entry)) (now (up .exit)) (now (kind .exit)) (now (left .exit)) (now (right .exit)) n (IsArrow (now (kids .entry)) x d) r ⌝ ∗ ⌜ ((m : ℕ) → x < m → Within m (now (kids .entry)) d → Confined m (now (kids .entry)) (now (up .entry)) (now (kind .entry)) (now (left .entry)) (now (right .entry)) (now (up .exit)) (now (kind .exit)) (now (left .exit)) (now (right .exit)) n r) ⌝ }
-{
-    let r = forest::root(up, x);
-    let k = kind[r];
-    if k == 0 {
-        kind[r] = (d + 2) as u16;
-        return Joining::Pairs(n);
-    }
-    if k == 1 {
-        return Joining::Clash;
-    }
-    unify_arrows(up, kind, kids, left, right, n, k as usize - 2, d)
 }

@@ -14,6 +14,9 @@ use Rattle.occurs.proofs.Search.{
   no-arrow,
   marked-already,
   contains-itself,
+  way-root,
+  new-arrow,
+  walked-root,
   entered,
   fewer-unseen,
   way-on,
@@ -47,16 +50,64 @@ module _ (t : ℕ) where
       finite-qualified.Pre
 
   abbrev finite-qualified-claims : finite-qualified-lts.Claims
-  finite-qualified-claims =
-      (and 4 finite-type-kinds.ps (falls 4 finite-type-kinds.ps _<_ μ-finite-type t) finite-type.Pre, finite-type.Post)
+  finite-qualified-claims = (
+    find-reads.Asked,
+    find-reads.Learnt,
+    and 4 finite-type-kinds.ps (falls 4 finite-type-kinds.ps _<_ μ-finite-type t) finite-type.Pre,
+    finite-type.Post,
+  )
 
-  finite-qualified-finite-type-requires :
-      finite-qualified-lts.Need-finite-type-requires finite-qualified-claims finite-qualified-here finite-qualified.Post
-  finite-qualified-finite-type-requires c κs = (omega (arith, c .before .pre .0), c .before .pre .1)
+  finite-qualified-find-requires :
+      finite-qualified-lts.Need-find-requires finite-qualified-claims finite-qualified-here finite-qualified.Post
+  finite-qualified-find-requires c κs = (c .pre .1 .0 .forest, c .pre .1 .1 .1 .0)
+
+  finite-qualified-mul-if1 :
+      finite-qualified-lts.Need-mul-if1 finite-qualified-claims finite-qualified-here finite-qualified.Post
+  finite-qualified-mul-if1 c = omega arith
+
+  finite-qualified-element-copy-out-if1 :
+      finite-qualified-lts.Need-element-copy-out-if1 finite-qualified-claims finite-qualified-here finite-qualified.Post
+  finite-qualified-element-copy-out-if1 c = omega arith
 
   finite-qualified-returns :
       finite-qualified-lts.Need-returns finite-qualified-claims finite-qualified-here finite-qualified.Post
-  finite-qualified-returns c = c .finite-type .ensures
+  finite-qualified-returns c =
+      let given = c .before .before .before .pre .1 in
+      no-arrow (given .1 .1 .0) (c .before .before .find .ensures) (given .1 .1 .1) (c .if1 .taken)
+
+  finite-qualified-element-copy-out-mark :
+      finite-qualified-lts.Need-element-copy-out-mark finite-qualified-claims finite-qualified-here finite-qualified.Post
+  finite-qualified-element-copy-out-mark c = omega arith
+
+  finite-qualified-returns-2 :
+      finite-qualified-lts.Need-returns-2 finite-qualified-claims finite-qualified-here finite-qualified.Post
+  finite-qualified-returns-2 c =
+      let given = c .before .before .before .before .before .pre .1 in
+      contains-itself (given .1 .1 .0) (c .before .before .before .before .find .ensures) (given .1 .1 .1) (c .if2 .taken)
+
+  finite-qualified-returns-3 :
+      finite-qualified-lts.Need-returns-3 finite-qualified-claims finite-qualified-here finite-qualified.Post
+  finite-qualified-returns-3 c =
+      let given = c .before .before .before .before .before .before .pre .1 in
+      marked-already (given .1 .1 .0) (c .before .before .before .before .before .find .ensures) (given .1 .1 .1) (omega arith)
+
+  finite-qualified-finite-type-requires :
+      finite-qualified-lts.Need-finite-type-requires finite-qualified-claims finite-qualified-here finite-qualified.Post
+  finite-qualified-finite-type-requires c κs =
+      let start = c .before .before .before .before .before .before .before in
+      let given = start .pre .1 in
+      let found = c .before .before .before .before .before .before .find .ensures in
+      let many = c .before .before .before .before .if1 .left in
+      let new = new-arrow (given .1 .1 .0) found (given .1 .1 .1) many (c .before .if3 .left) in
+      let way = way-root (given .1 .1 .0) found (given .1 .1 .1) in
+      (omega (arith, start .pre .0), (given .0, (given .1 .0, (new, way))))
+
+  finite-qualified-returns-4 :
+      finite-qualified-lts.Need-returns-4 finite-qualified-claims finite-qualified-here finite-qualified.Post
+  finite-qualified-returns-4 c =
+      let given = c .before .before .before .before .before .before .before .before .pre .1 in
+      let found = c .before .before .before .before .before .before .before .find .ensures in
+      walked-root (given .1 .1 .0) found (given .1 .1 .1) (c .finite-type .ensures)
 
 -- `finite_type`, likewise.
 module _ (t : ℕ) where
@@ -65,8 +116,6 @@ module _ (t : ℕ) where
 
   abbrev claims : finite-type-lts.Claims
   claims = (
-    find-reads.Asked,
-    find-reads.Learnt,
     part-reads.Asked,
     part-reads.Learnt,
     and
@@ -77,122 +126,86 @@ module _ (t : ℕ) where
     finite-qualified.Post,
   )
 
-  finite-type-find-requires : finite-type-lts.Need-find-requires claims here finite-type.Post
-  finite-type-find-requires c κs = (c .pre .1 .0 .forest, c .pre .1 .1 .1 .0)
-
-  finite-type-mul-k : finite-type-lts.Need-mul-k claims here finite-type.Post
-  finite-type-mul-k c = omega arith
-
-  finite-type-element-copy-out-k : finite-type-lts.Need-element-copy-out-k claims here finite-type.Post
-  finite-type-element-copy-out-k c = omega arith
-
-  finite-type-cast-k : finite-type-lts.Need-cast-k claims here finite-type.Post
-  finite-type-cast-k c =
-      let given = c .before .before .pre .1 in
-      omega (arith, given .0 .kinds (c .before .find .result) (omega arith))
-
-  finite-type-returns : finite-type-lts.Need-returns claims here finite-type.Post
-  finite-type-returns c =
-      let given = c .before .before .before .pre .1 in
-      no-arrow (given .1 .1 .0) (c .before .before .find .ensures) (given .1 .1 .1) (c .if1 .taken)
-
-  finite-type-element-copy-out-mark : finite-type-lts.Need-element-copy-out-mark claims here finite-type.Post
-  finite-type-element-copy-out-mark c = omega arith
-
-  finite-type-returns-2 : finite-type-lts.Need-returns-2 claims here finite-type.Post
-  finite-type-returns-2 c =
-      let given = c .before .before .before .before .before .pre .1 in
-      contains-itself (given .1 .1 .0) (c .before .before .before .before .find .ensures) (given .1 .1 .1) (c .if2 .taken)
-
-  finite-type-returns-3 : finite-type-lts.Need-returns-3 claims here finite-type.Post
-  finite-type-returns-3 c =
-      let given = c .before .before .before .before .before .before .pre .1 in
-      marked-already (given .1 .1 .0) (c .before .before .before .before .before .find .ensures) (given .1 .1 .1) (omega arith)
-
   finite-type-element-write-marks : finite-type-lts.Need-element-write-marks claims here finite-type.Post
-  finite-type-element-write-marks c = omega arith
+  finite-type-element-write-marks c = omega (arith, c .pre .1 .1 .1 .0 .node)
+
+  finite-type-mul-d : finite-type-lts.Need-mul-d claims here finite-type.Post
+  finite-type-mul-d c = omega (arith, c .pre .1 .1 .1 .0 .node)
+
+  finite-type-element-copy-out-d : finite-type-lts.Need-element-copy-out-d claims here finite-type.Post
+  finite-type-element-copy-out-d c = omega (arith, c .pre .1 .1 .1 .0 .node)
+
+  finite-type-cast-d : finite-type-lts.Need-cast-d claims here finite-type.Post
+  finite-type-cast-d c =
+      let given = c .before .pre .1 in
+      omega (arith, given .0 .kinds (c .before .args .root) (given .1 .1 .0 .node))
+
+  finite-type-sub-d : finite-type-lts.Need-sub-d claims here finite-type.Post
+  finite-type-sub-d c = c .before .pre .1 .1 .1 .0 .arrow
 
   finite-type-part-requires : finite-type-lts.Need-part-requires claims here finite-type.Post
   finite-type-part-requires c κs =
-      let given = c .before .before .before .before .before .before .pre .1 in
-      let found = c .before .before .before .before .before .find .ensures in
-      (given .1 .0, (descriptor (given .0) _ (omega (arith, found .low, given .1 .1 .0)), omega arith))
+      let given = c .before .pre .1 in
+      (given .1 .0, (descriptor (given .0) _ (given .1 .1 .0 .node), omega arith))
 
   finite-type-part-requires-2 : finite-type-lts.Need-part-requires-2 claims here finite-type.Post
   finite-type-part-requires-2 c κs =
-      let unmarked = c .before in
-      let given = unmarked .before .before .before .before .before .before .pre .1 in
-      let found = unmarked .before .before .before .before .before .find .ensures in
-      (given .1 .0, (descriptor (given .0) _ (omega (arith, found .low, given .1 .1 .0)), omega arith))
+      let given = c .before .before .pre .1 in
+      (given .1 .0, (descriptor (given .0) _ (given .1 .1 .0 .node), omega arith))
 
   finite-type-finite-qualified-requires : finite-type-lts.Need-finite-qualified-requires claims here finite-type.Post
   finite-type-finite-qualified-requires c κs =
-      let unmarked = c .before .before .before in
-      let given = unmarked .before .before .before .before .before .before .pre .1 in
-      let found = unmarked .before .before .before .before .before .find .ensures in
-      let kept = entered (given .1 .1 .0) found (given .1 .1 .1) in
-      let fewer = fewer-unseen (given .1 .1 .0) found (given .1 .1 .1) kept (unmarked .if3 .left) in
-      let many = unmarked .before .before .before .if1 .left in
+      let start = c .before .before .before .before in
+      let given = start .pre .1 in
+      let kept = entered (given .1 .1 .0) (given .1 .1 .1) in
+      let fewer = fewer-unseen (given .1 .1 .0) (given .1 .1 .1) kept in
       let part = c .before .part2 .ensures in
-      let way = way-on (given .1 .1 .0) found (given .1 .1 .1) kept _ many (inl (part .0)) in
-      let number = unmarked .before .before .before .before .before .before .pre .0 in
-      (omega (arith, fewer, number), (given .0, (given .1 .0, (part .1, way))))
+      let way = way-on (given .1 .1 .0) (given .1 .1 .1) kept _ (inl (part .0)) in
+      (omega (arith, fewer, start .pre .0), (given .0, (given .1 .0, (part .1, way))))
 
-  finite-type-returns-4 : finite-type-lts.Need-returns-4 claims here finite-type.Post
-  finite-type-returns-4 c = walked-none (c .before .finite-qualified .ensures .none (not-true _ (c .if4 .taken)))
+  finite-type-returns : finite-type-lts.Need-returns claims here finite-type.Post
+  finite-type-returns c = walked-none (c .before .finite-qualified .ensures .none (not-true _ (c .if1 .taken)))
 
   finite-type-part-requires-3 : finite-type-lts.Need-part-requires-3 claims here finite-type.Post
   finite-type-part-requires-3 c κs =
-      let unmarked = c .before .before .before .before .before in
-      let given = unmarked .before .before .before .before .before .before .pre .1 in
-      let found = unmarked .before .before .before .before .before .find .ensures in
-      (given .1 .0, (descriptor (given .0) _ (omega (arith, found .low, given .1 .1 .0)), omega arith))
+      let given = c .before .before .before .before .before .before .pre .1 in
+      (given .1 .0, (descriptor (given .0) _ (given .1 .1 .0 .node), omega arith))
 
   finite-type-part-requires-4 : finite-type-lts.Need-part-requires-4 claims here finite-type.Post
   finite-type-part-requires-4 c κs =
-      let unmarked = c .before .before .before .before .before .before in
-      let given = unmarked .before .before .before .before .before .before .pre .1 in
-      let found = unmarked .before .before .before .before .before .find .ensures in
-      (given .1 .0, (descriptor (given .0) _ (omega (arith, found .low, given .1 .1 .0)), omega arith))
+      let given = c .before .before .before .before .before .before .before .pre .1 in
+      (given .1 .0, (descriptor (given .0) _ (given .1 .1 .0 .node), omega arith))
 
   finite-type-finite-qualified-requires-2 : finite-type-lts.Need-finite-qualified-requires-2 claims here finite-type.Post
   finite-type-finite-qualified-requires-2 c κs =
-      let unmarked = c .before .before .before .before .before .before .before .before in
-      let given = unmarked .before .before .before .before .before .before .pre .1 in
-      let found = unmarked .before .before .before .before .before .find .ensures in
-      let kept = c .before .before .before .before .finite-qualified .ensures .kept (not-false _ (c .before .before .before .if4 .left)) in
-      let fewer = fewer-unseen (given .1 .1 .0) found (given .1 .1 .1) kept (unmarked .if3 .left) in
-      let many = unmarked .before .before .before .if1 .left in
+      let start = c .before .before .before .before .before .before .before .before .before in
+      let given = start .pre .1 in
+      let kept = c .before .before .before .before .finite-qualified .ensures .kept (not-false _ (c .before .before .before .if1 .left)) in
+      let fewer = fewer-unseen (given .1 .1 .0) (given .1 .1 .1) kept in
       let part = c .before .part4 .ensures in
-      let way = way-on (given .1 .1 .0) found (given .1 .1 .1) kept _ many (inr (part .0)) in
-      let number = unmarked .before .before .before .before .before .before .pre .0 in
-      (omega (arith, fewer, number), (given .0, (given .1 .0, (part .1, way))))
+      let way = way-on (given .1 .1 .0) (given .1 .1 .1) kept _ (inr (part .0)) in
+      (omega (arith, fewer, start .pre .0), (given .0, (given .1 .0, (part .1, way))))
 
-  finite-type-returns-5 : finite-type-lts.Need-returns-5 claims here finite-type.Post
-  finite-type-returns-5 c = walked-none (c .before .finite-qualified2 .ensures .none (not-true _ (c .if5 .taken)))
+  finite-type-returns-2 : finite-type-lts.Need-returns-2 claims here finite-type.Post
+  finite-type-returns-2 c = walked-none (c .before .finite-qualified2 .ensures .none (not-true _ (c .if2 .taken)))
 
   finite-type-element-write-marks-2 : finite-type-lts.Need-element-write-marks-2 claims here finite-type.Post
   finite-type-element-write-marks-2 c =
-      let unmarked = c .before .before .before .before .before .before .before .before .before .before in
-      let given = unmarked .before .before .before .before .before .before .pre .1 in
-      let found = unmarked .before .before .before .before .before .find .ensures in
-      omega (arith, found .low, given .1 .1 .0)
+      let start = c .before .before .before .before .before .before .before .before .before .before .before in
+      omega (arith, start .pre .1 .1 .1 .0 .node)
 
-  finite-type-returns-6 : finite-type-lts.Need-returns-6 claims here finite-type.Post
-  finite-type-returns-6 c =
-      let unmarked = c .before .before .before .before .before .before .before .before .before .before in
-      let given = unmarked .before .before .before .before .before .before .pre .1 in
-      let found = unmarked .before .before .before .before .before .find .ensures in
+  finite-type-returns-3 : finite-type-lts.Need-returns-3 claims here finite-type.Post
+  finite-type-returns-3 c =
+      let start = c .before .before .before .before .before .before .before .before .before .before .before in
+      let given = start .pre .1 in
       let first = c .before .before .before .before .before .before .finite-qualified .ensures in
-      let first-finite = not-false _ (c .before .before .before .before .before .if4 .left) in
+      let first-finite = not-false _ (c .before .before .before .before .before .if1 .left) in
       let second = c .before .finite-qualified2 .ensures in
-      let second-finite = not-false _ (c .if5 .left) in
+      let second-finite = not-false _ (c .if2 .left) in
       finished
       (given .1 .1 .0)
-      found
       (given .1 .1 .1)
       (kept-trans (first .kept first-finite) (second .kept second-finite))
-      (unmarked .before .before .before .if1 .left)
       (c .before .before .before .before .before .before .before .before .part2 .ensures .0)
       (c .before .before .before .part4 .ensures .0)
       (first .finite first-finite)
@@ -203,27 +216,30 @@ pub +finite-qualified+finite-type-spec : {M : Type 1} → statement M
     close μ-finite-qualified μ-finite-type (λ t. finite-qualified-lts.spec (finite-qualified-claims t)
     (finite-qualified-here t)
     finite-qualified.Post
+    (finite-qualified-find-requires t)
+    (finite-qualified-mul-if1 t)
+    (finite-qualified-element-copy-out-if1 t)
+    (finite-qualified-returns t)
+    (finite-qualified-element-copy-out-mark t)
+    (finite-qualified-returns-2 t)
+    (finite-qualified-returns-3 t)
     (finite-qualified-finite-type-requires t)
-    (finite-qualified-returns t))
+    (finite-qualified-returns-4 t))
     λ t. finite-type-lts.spec (claims t)
     (here t)
     finite-type.Post
-    (finite-type-find-requires t)
-    (finite-type-mul-k t)
-    (finite-type-element-copy-out-k t)
-    (finite-type-cast-k t)
-    (finite-type-returns t)
-    (finite-type-element-copy-out-mark t)
-    (finite-type-returns-2 t)
-    (finite-type-returns-3 t)
     (finite-type-element-write-marks t)
+    (finite-type-mul-d t)
+    (finite-type-element-copy-out-d t)
+    (finite-type-cast-d t)
+    (finite-type-sub-d t)
     (finite-type-part-requires t)
     (finite-type-part-requires-2 t)
     (finite-type-finite-qualified-requires t)
-    (finite-type-returns-4 t)
+    (finite-type-returns t)
     (finite-type-part-requires-3 t)
     (finite-type-part-requires-4 t)
     (finite-type-finite-qualified-requires-2 t)
-    (finite-type-returns-5 t)
+    (finite-type-returns-2 t)
     (finite-type-element-write-marks-2 t)
-    (finite-type-returns-6 t)
+    (finite-type-returns-3 t)

@@ -1,7 +1,7 @@
 -- Two constants clash; any other two roots are joined under the smaller.
 use native.Mathlib.Omega.{arith}
 use borrow.Author.Needs.{needs}
-use Rattle.qualifiers.proofs.Uniting.{join-clash, joined-rand, joined}
+use Rattle.qualifiers.proofs.Uniting.{join-clash, join-rand, join-meets}
 use Rattle.qualifiers.proofs.join.Statement.{statement}
 use Rattle.qualifiers.proofs.join.Tie as tie
 
@@ -16,7 +16,7 @@ put-under-requires c κs = search needs
 
 returns-2 : tie.Need-returns-2
 returns-2 c =
-    rw (c .put-under .ensures) (joined-rand (c .before .before .before .before .before .pre .0) _ _ (c .before .before .before .before .before .pre .1) (c .before .before .before .before .if1 .left) (c .before .before .if2 .taken))
+    rw (c .put-under .ensures) (join-rand (c .before .before .before .before .before .pre .0) _ _ (c .before .before .before .before .before .pre .1) (c .before .before .before .before .if1 .left) (c .before .before .if2 .taken))
 
 element-copy-out-meet : tie.Need-element-copy-out-meet
 element-copy-out-meet c = search needs
@@ -38,7 +38,7 @@ put-under-requires-2 c κs = search needs
 returns-3 : tie.Need-returns-3
 returns-3 c =
     let start = c .before .before .before .before .before .before .before .before in
-    rw (c .put-under2 .ensures, c .before .before .meet .ensures) (joined (start .pre .0) _ _ (start .pre .1) (c .before .before .before .before .before .before .before .if1 .left))
+    rw (c .put-under2 .ensures, c .before .before .meet .ensures) (join-meets (start .pre .0) _ _ (start .pre .1) (c .before .before .before .before .before .before .before .if1 .left))
 
 pub join-spec : {M : Type 1} → statement M
 join-spec =

@@ -1,10 +1,10 @@
 -- The invariant: the pairs before i were made one.
 use Prim.Native.Nat.{_≤_, _-_}
 use native.Mathlib.Omega.{arith}
-use borrow.Author.Tests.{not-true, not-false}
+use borrow.Author.Tests.{lt-ltb}
 use mathlib.Core.Bool.{true}
 use mathlib.Core.Path.{_≡_}
-use Rattle.qualifiers.proofs.Uniting.{all-none, all-more, all-clash}
+use Rattle.qualifiers.proofs.Uniting.{no-class, class-node, all-none, all-more, all-clash}
 use Rattle.qualifiers.specs.Classes.{UnitedAll}
 use Rattle.qualifiers.proofs.unite_all.Statement.{statement}
 use Rattle.qualifiers.proofs.unite_all.Tie as tie
@@ -44,7 +44,7 @@ unite-requires c κs =
     (turn .inv .1 .classes, (pairs .left-node (turn .i) less, pairs .right-node (turn .i) less))
 
 returns : tie.Need-returns Inv-loop μ-loop
-returns c = all-clash (c .before .before .before .before .before .before .before .loop .inv .1) (c .before .unite .ensures) (c .before .before .before .before .before .before .loop-test .taken) (not-true _ (c .if1 .taken))
+returns c = all-clash (c .before .before .before .before .before .before .before .loop .inv .1) (c .before .unite .ensures .0) (c .before .before .before .before .before .before .loop-test .taken) (no-class (c .if1 .taken))
 
 add-i : tie.Need-add-i Inv-loop μ-loop
 add-i c = omega arith
@@ -53,7 +53,7 @@ loop-less : tie.Need-loop-less Inv-loop μ-loop
 loop-less c = omega arith
 
 loop-again : tie.Need-loop-again Inv-loop μ-loop
-loop-again c = (omega arith, all-more (c .before .before .before .before .before .before .before .loop .inv .1) (c .before .unite .ensures) (not-false _ (c .if1 .left)))
+loop-again c = (omega arith, all-more (c .before .before .before .before .before .before .before .loop .inv .1) (c .before .unite .ensures .0) (lt-ltb _ 327 (class-node (c .before .unite .ensures .1) (c .if1 .left))))
 
 returns-2 : tie.Need-returns-2 Inv-loop μ-loop
 returns-2 c =

@@ -1,8 +1,10 @@
 -- `rows::op_row`: each way out is one law over the lists before and after.
+use Prim.Native.Nat.{_<_}
 use native.Mathlib.Omega.{arith}
 use borrow.Author.Tests.{not-true, not-false}
 use Rattle.scheme.proofs.Operation.{highest-code}
-use Rattle.rows.proofs.Operations.{result-below, new-result, left-clash, left-classes, right-clash, operands-apart, op-fine, op-broken}
+use Rattle.qualifiers.proofs.Uniting.{class-node}
+use Rattle.rows.proofs.Operations.{result-one, left-clash, left-classes, right-clash, operands-apart, op-fine, op-broken}
 use borrow.Author.Needs.{needs}
 use Rattle.rows.proofs.op_row.Statement.{statement}
 use Rattle.rows.proofs.op_row.Tie as tie
@@ -51,14 +53,12 @@ unite-requires c κs = search needs
 
 returns-3 : tie.Need-returns-3
 returns-3 c =
-    let a = c .before .before .before .before .before .before .before .before .before .before .before .before in
-    operands-apart (a .args .o) (a .pre .1 .1 .0) (a .pre .0) (a .pre .1 .0) (c .before .before .before .before .before .before .before .before .before .make-int .ensures) (not-false _ (c .before .before .before .before .before .before .before .before .if1 .left)) (c .before .before .before .before .before .make-int2 .ensures) (not-false _ (c .before .before .before .before .if2 .left)) (c .before .unite .ensures) (not-true _ (c .if3 .taken))
-
-add-result : tie.Need-add-result
-add-result c = search needs
+    let u = c .before in
+    let a = u .before .before .before .before .before .before .before .before .before .before .before in
+    operands-apart (a .args .o) (a .pre .1 .1 .0) (a .pre .0) (a .pre .1 .0) (u .before .before .before .before .before .before .before .before .make-int .ensures) (not-false _ (u .before .before .before .before .before .before .before .if1 .left)) (u .before .before .before .before .make-int2 .ensures) (not-false _ (u .before .before .before .if2 .left)) (u .unite .ensures) (c .if3 .taken)
 
 cast-result : tie.Need-cast-result
-cast-result c = search needs
+cast-result c = omega arith
 
 result-requires : tie.Need-result-requires
 result-requires c κs = search needs
@@ -66,37 +66,35 @@ result-requires c κs = search needs
 cast-result-2 : tie.Need-cast-result-2
 cast-result-2 c = search needs
 
-add-put-under-root : tie.Need-add-put-under-root
-add-put-under-root c = search needs
+add-put-under : tie.Need-add-put-under
+add-put-under c = search needs
 
-put-under-root-requires : tie.Need-put-under-root-requires
-put-under-root-requires c κs =
-    let a = c .before .before .before .before .before .before .before .before .before .before .before .before .before .before in
-    (c .before .before .before .unite .ensures .classes .forest, (omega arith, result-below (a .args .o) _ _ 327 (omega arith) (c .before .result .ensures)))
-
-add-restrict : tie.Need-add-restrict
-add-restrict c = search needs
+put-under-requires : tie.Need-put-under-requires
+put-under-requires c κs =
+    let u = c .before .before .before in
+    let a = u .before .before .before .before .before .before .before .before .before .before .before in
+    (omega arith, result-one (λ x. x < 327) (a .args .o) _ (c .before .result .ensures) (class-node (u .unite .ensures .1) (c .before .before .if3 .left)) (omega arith))
 
 highest-requires : tie.Need-highest-requires
 highest-requires c κs = search needs
 
 restrict-requires : tie.Need-restrict-requires
 restrict-requires c κs =
-    let a = c .before .before .before .before .before .before .before .before .before .before .before .before .before .before .before .before .before .before in
-    (new-result (a .args .o) (a .pre .1 .1 .0) (a .pre .0) (a .pre .1 .0) (c .before .before .before .before .before .before .before .before .before .before .before .before .before .before .before .make-int .ensures) (not-false _ (c .before .before .before .before .before .before .before .before .before .before .before .before .before .before .if1 .left)) (c .before .before .before .before .before .before .before .before .before .before .before .make-int2 .ensures) (not-false _ (c .before .before .before .before .before .before .before .before .before .before .if2 .left)) (c .before .before .before .before .before .before .before .unite .ensures) (c .before .before .before .before .before .result .ensures) (c .before .before .before .put-under-root .ensures) (a .pre .1 .1 .1) .classes, (omega arith, rw (c .highest .ensures) (highest-code (a .args .o))))
-
-within-bounds-requires : tie.Need-within-bounds-requires
-within-bounds-requires c κs = search needs
+    let u = c .before .before .before .before .before .before in
+    let a = u .before .before .before .before .before .before .before .before .before .before .before in
+    ((u .unite .ensures .0 .classes .size, u .unite .ensures .0 .classes .codes), (class-node (u .unite .ensures .1) (c .before .before .before .before .before .if3 .left), rw (c .highest .ensures) (highest-code (a .args .o))))
 
 returns-4 : tie.Need-returns-4
 returns-4 c =
-    let a = c .before .before .before .before .before .before .before .before .before .before .before .before .before .before .before .before .before .before .before .before .before .before in
-    op-fine (a .args .o) (a .pre .1 .1 .0) (a .pre .0) (a .pre .1 .0) (c .before .before .before .before .before .before .before .before .before .before .before .before .before .before .before .before .before .before .before .make-int .ensures) (not-false _ (c .before .before .before .before .before .before .before .before .before .before .before .before .before .before .before .before .before .before .if1 .left)) (c .before .before .before .before .before .before .before .before .before .before .before .before .before .before .before .make-int2 .ensures) (not-false _ (c .before .before .before .before .before .before .before .before .before .before .before .before .before .before .if2 .left)) (c .before .before .before .before .before .before .before .before .before .before .before .unite .ensures) (c .before .before .before .before .before .before .before .before .before .result .ensures) (c .before .before .before .before .before .before .before .put-under-root .ensures) (a .pre .1 .1 .1) (not-false _ (c .before .before .before .before .before .before .before .before .before .before .if3 .left)) (c .before .before .before .before .highest .ensures) (c .before .before .before .restrict .ensures) (c .before .within-bounds .ensures) (c .if4 .taken)
+    let u = c .before .before .before .before .before .before .before .before in
+    let a = u .before .before .before .before .before .before .before .before .before .before .before in
+    op-fine (a .args .o) (a .pre .1 .1 .0) (a .pre .0) (a .pre .1 .0) (u .before .before .before .before .before .before .before .before .make-int .ensures) (not-false _ (u .before .before .before .before .before .before .before .if1 .left)) (u .before .before .before .before .make-int2 .ensures) (not-false _ (u .before .before .before .if2 .left)) (u .unite .ensures) (c .before .before .before .before .before .before .before .if3 .left) (c .before .before .before .before .before .before .result .ensures) (c .before .before .before .before .put-under .ensures) (a .pre .1 .1 .1) (c .before .before .highest .ensures) (c .before .restrict .ensures) (c .if4 .taken)
 
 returns-5 : tie.Need-returns-5
 returns-5 c =
-    let a = c .before .before .before .before .before .before .before .before .before .before .before .before .before .before .before .before .before .before .before .before .before .before in
-    op-broken (a .args .o) (a .pre .1 .1 .0) (a .pre .0) (a .pre .1 .0) (c .before .before .before .before .before .before .before .before .before .before .before .before .before .before .before .before .before .before .before .make-int .ensures) (not-false _ (c .before .before .before .before .before .before .before .before .before .before .before .before .before .before .before .before .before .before .if1 .left)) (c .before .before .before .before .before .before .before .before .before .before .before .before .before .before .before .make-int2 .ensures) (not-false _ (c .before .before .before .before .before .before .before .before .before .before .before .before .before .before .if2 .left)) (c .before .before .before .before .before .before .before .before .before .before .before .unite .ensures) (c .before .before .before .before .before .before .before .before .before .result .ensures) (c .before .before .before .before .before .before .before .put-under-root .ensures) (a .pre .1 .1 .1) (not-false _ (c .before .before .before .before .before .before .before .before .before .before .if3 .left)) (c .before .before .before .before .highest .ensures) (c .before .before .before .restrict .ensures) (c .before .within-bounds .ensures) (c .if4 .left)
+    let u = c .before .before .before .before .before .before .before .before in
+    let a = u .before .before .before .before .before .before .before .before .before .before .before in
+    op-broken (a .args .o) (a .pre .1 .1 .0) (a .pre .0) (a .pre .1 .0) (u .before .before .before .before .before .before .before .before .make-int .ensures) (not-false _ (u .before .before .before .before .before .before .before .if1 .left)) (u .before .before .before .before .make-int2 .ensures) (not-false _ (u .before .before .before .if2 .left)) (u .unite .ensures) (c .before .before .before .before .before .before .before .if3 .left) (c .before .before .before .before .before .before .result .ensures) (c .before .before .before .before .put-under .ensures) (a .pre .1 .1 .1) (c .before .before .highest .ensures) (c .before .restrict .ensures) (c .if4 .left)
 
 pub op-row-spec : {M : Type 1} → statement M
 op-row-spec =
@@ -115,15 +113,12 @@ op-row-spec =
     add-unite-2
     unite-requires
     returns-3
-    add-result
     cast-result
     result-requires
     cast-result-2
-    add-put-under-root
-    put-under-root-requires
-    add-restrict
+    add-put-under
+    put-under-requires
     highest-requires
     restrict-requires
-    within-bounds-requires
     returns-4
     returns-5)

@@ -50,29 +50,74 @@ op-row-requires c κs =
     let stands = rw (c .before .before .before .before .before .term2 .given .1) at (row .0 .stands) in
     (a .pre .0, (a .pre .1 .1 .0, ((row .0 .in-list, stands .1, stands .2), a .pre .1 .1 .1 .1 .qualifiers)))
 
-enum-told-2 : tie.Need-enum-told-2
-enum-told-2 c = search needs
+enum-known-term-3 : tie.Need-enum-known-term-3
+enum-known-term-3 c = search needs
 
 add-put-under-root : tie.Need-add-put-under-root
 add-put-under-root c = search needs
 
+cast-put-under-root : tie.Need-cast-put-under-root
+cast-put-under-root c = search needs
+
+mul-put-under-root : tie.Need-mul-put-under-root
+mul-put-under-root c = search needs
+
+element-copy-out-put-under-root : tie.Need-element-copy-out-put-under-root
+element-copy-out-put-under-root c =
+    let a = c .before .before .before .before in
+    let row = a .pre .1 .1 .1 .0 in
+    let is = c .before .before .term3 .given .1 in
+    rw is at (row .0 .stands)
+
+cast-put-under-root-2 : tie.Need-cast-put-under-root-2
+cast-put-under-root-2 c =
+    let a = c .before .before .before .before .before in
+    let row = a .pre .1 .1 .1 .0 in
+    let is = c .before .before .before .term3 .given .1 in
+    omega (arith, rw is at (row .0 .type-node))
+
 put-under-root-requires : tie.Need-put-under-root-requires
-put-under-root-requires c κs = search needs
+put-under-root-requires c κs =
+    let a = c .before .before .before .before .before in
+    let row = a .pre .1 .1 .1 .0 in
+    let is = c .before .before .before .term3 .given .1 in
+    (a .pre .0 .forest, omega (arith, row .0 .in-list, rw is at (row .0 .type-node)))
 
 add-put-under-root-2 : tie.Need-add-put-under-root-2
 add-put-under-root-2 c = search needs
 
-put-under-root-requires-2 : tie.Need-put-under-root-requires-2
-put-under-root-requires-2 c κs = search needs
+cast-put-under-root-3 : tie.Need-cast-put-under-root-3
+cast-put-under-root-3 c = search needs
 
-enum-told-3 : tie.Need-enum-told-3
-enum-told-3 c = search needs
+element-copy-out-put-under-root-2 : tie.Need-element-copy-out-put-under-root-2
+element-copy-out-put-under-root-2 c =
+    let a = c .before .before .before .before .before .before .before in
+    let row = a .pre .1 .1 .1 .0 in
+    let is = c .before .before .before .before .before .term3 .given .1 in
+    rw is at (row .0 .stands)
+
+cast-put-under-root-4 : tie.Need-cast-put-under-root-4
+cast-put-under-root-4 c =
+    let a = c .before .before .before .before .before .before .before .before in
+    let row = a .pre .1 .1 .1 .0 in
+    let is = c .before .before .before .before .before .before .term3 .given .1 in
+    omega (arith, rw is at (row .0 .qualifier-node))
+
+put-under-root-requires-2 : tie.Need-put-under-root-requires-2
+put-under-root-requires-2 c κs =
+    let a = c .before .before .before .before .before .before .before .before in
+    let row = a .pre .1 .1 .1 .0 in
+    let is = c .before .before .before .before .before .before .term3 .given .1 in
+    (a .pre .1 .1 .0 .forest, omega (arith, row .0 .in-list, rw is at (row .0 .qualifier-node)))
+
+enum-told-2 : tie.Need-enum-told-2
+enum-told-2 c = search needs
 
 known-row-requires-2 : tie.Need-known-row-requires-2
 known-row-requires-2 c κs = search needs
 
-enum-known-term-3 : tie.Need-enum-known-term-3
-enum-known-term-3 c = search needs
+enum-known-term-4 : tie.Need-enum-known-term-4
+enum-known-term-4 c = search needs
 
 cast-known-row-2 : tie.Need-cast-known-row-2
 cast-known-row-2 c = search needs
@@ -87,7 +132,7 @@ returns c =
     let is = c .before .before .before .enum-told .given .1 in
     let stands = rw is at (row .0 .stands) in
     rw is
-    (row-arrow (row .0 .in-list) (a .pre .0) (a .pre .1 .1 .0) (a .pre .1 .1 .1 .1) (c .known-row .ensures) (rw is at (row .1)) (omega (arith, row .0 .qualifier-node)) (omega (arith, row .0 .type-node)) (omega (arith, stands .1)) (omega (arith, stands .1)))
+    (row-arrow (row .0 .in-list) (a .pre .0) (a .pre .1 .1 .0) (a .pre .1 .1 .1 .1) (c .known-row .ensures) (rw is at (row .1)) (omega (arith, rw is at (row .0 .qualifier-node))) (omega (arith, rw is at (row .0 .type-node))) (omega (arith, stands .1)) (omega (arith, stands .1)))
 
 returns-2 : tie.Need-returns-2
 returns-2 c = rw (c .before .before .before .before .before .before .before .before .term .given .1) (c .app-row .ensures)
@@ -100,21 +145,22 @@ returns-3 c =
 
 returns-4 : tie.Need-returns-4
 returns-4 c =
-    let a = c .before .before .before .before .before .before in
+    let a = c .before .before .before .before .before .before .before .before .before in
     let row = a .pre .1 .1 .1 .0 in
-    rw (c .before .before .before .before .enum-told2 .given .1) (row-same (row .0 .in-list) (a .pre .0) (a .pre .1 .1 .0) (a .pre .1 .1 .1 .1) (omega (arith, row .0 .qualifier-node)) (row .0 .type-node) (c .before .before .put-under-root .ensures) (c .put-under-root2 .ensures))
+    let is = c .before .before .before .before .before .before .before .term3 .given .1 in
+    rw is (row-same (row .0 .in-list) (a .pre .0) (a .pre .1 .1 .0) (a .pre .1 .1 .1 .1) (omega (arith, rw is at (row .0 .qualifier-node))) (rw is at (row .0 .type-node)) (c .before .before .before .put-under-root .ensures) (c .put-under-root2 .ensures))
 
 returns-5 : tie.Need-returns-5
 returns-5 c =
     let a = c .before .before .before .before .before in
     let row = a .pre .1 .1 .1 .0 in
-    rw (c .before .before .before .enum-told3 .given .1) (row-int (row .0 .in-list) (a .pre .0) (a .pre .1 .1 .0) (a .pre .1 .1 .1 .1) (omega arith) (c .known-row2 .ensures))
+    rw (c .before .before .before .enum-told2 .given .1) (row-int (row .0 .in-list) (a .pre .0) (a .pre .1 .1 .0) (a .pre .1 .1 .1 .1) (omega arith) (c .known-row2 .ensures))
 
 returns-6 : tie.Need-returns-6
 returns-6 c =
     let a = c .before .before .before .before .before .before in
     let row = a .pre .1 .1 .1 .0 in
-    let is = c .before .before .before .before .term3 .given .1 in
+    let is = c .before .before .before .before .term4 .given .1 in
     let stands = rw is at (row .0 .stands) in
     rw is (row-int (row .0 .in-list) (a .pre .0) (a .pre .1 .1 .0) (a .pre .1 .1 .1 .1) (omega (arith, stands .1)) (c .known-row3 .ensures))
 
@@ -134,14 +180,21 @@ step-spec =
     cast-op-row
     cast-op-row-2
     op-row-requires
-    enum-told-2
+    enum-known-term-3
     add-put-under-root
+    cast-put-under-root
+    mul-put-under-root
+    element-copy-out-put-under-root
+    cast-put-under-root-2
     put-under-root-requires
     add-put-under-root-2
+    cast-put-under-root-3
+    element-copy-out-put-under-root-2
+    cast-put-under-root-4
     put-under-root-requires-2
-    enum-told-3
+    enum-told-2
     known-row-requires-2
-    enum-known-term-3
+    enum-known-term-4
     cast-known-row-2
     known-row-requires-3
     returns

@@ -2,16 +2,13 @@
 use Prim.Native.Nat.{ℕ, _-_, _<_, _≤_}
 use mathlib.Core.Path.{_≡_, refl, subst}
 use native.Mathlib.Omega.{arith}
-use lib.ListN.{take}
 use borrow.Author.Needs.{needs}
 use denote.Ref.{now}
-use Rattle.model.specs.Machine.{Machine, paramIn, termIn}
-use Rattle.readings.specs.Nodes.{parameterOf}
+use Rattle.model.specs.Machine.{Machine, termIn}
 use Rattle.graph.specs.Types.{Parts, TypeClasses}
 use Rattle.qualifiers.specs.Classes.{Classes}
 use Rattle.setup.specs.Passes.{FormsKept}
-use Rattle.setup.proofs.Descriptors.{names-place, has-nodes, forms-kept-none, forms-kept-more}
-use Rattle.rows.specs.Rows.{RowStands}
+use Rattle.setup.proofs.Descriptors.{has-nodes, forms-kept-none, forms-kept-more}
 use Rattle.rows.specs.Steps.{Ready}
 use Rattle.solver.specs.State.{After}
 use Rattle.solver.specs.Runs.{RowsOf, RowReady}
@@ -21,16 +18,16 @@ use Rattle.solver.proofs.take_rows.Statement.{statement}
 use Rattle.solver.proofs.take_rows.Tie as tie
 
 abbrev Inv-loop : tie.InvT-loop
-Inv-loop paramcount rows parent₀ bound₀ up₀ kind₀ kids₀ left₀ right₀ params terms i₀ parent bound up kind kids left right i =
+Inv-loop qualifiers typerows rows parent₀ bound₀ up₀ kind₀ kids₀ left₀ right₀ terms i₀ parent bound up kind kids left right i =
     (i ≤ rows)
     × TypeClasses up kind
     × Classes parent bound
     × (Parts kids × FormsKept kids₀ kids)
     × Ready i kids up kind parent bound
-    × ((m : Machine) → RowsOf m params paramcount terms rows → After m kids₀ up₀ kind₀ parent₀ bound₀ 0 → After m kids up kind parent bound i)
+    × ((m : Machine) → RowsOf m qualifiers typerows terms rows → After m kids₀ up₀ kind₀ parent₀ bound₀ 0 → After m kids up kind parent bound i)
 
 abbrev μ-loop : tie.MeasureT-loop
-μ-loop paramcount rows parent₀ bound₀ up₀ kind₀ kids₀ left₀ right₀ params terms i₀ parent bound up kind kids left right i =
+μ-loop qualifiers typerows rows parent₀ bound₀ up₀ kind₀ kids₀ left₀ right₀ terms i₀ parent bound up kind kids left right i =
     rows - i
 
 loop-holds : tie.Need-loop-holds Inv-loop μ-loop
@@ -39,7 +36,8 @@ loop-holds c =
     (omega arith, c .pre .1 .0, ready .0, (c .pre .1 .1 .0, forms-kept-none (now (c .args .kids))), ready .1, λ m of after. after)
 
 -- Row i stands, in its turn.
-row-stands : (c : tie.In-loop Inv-loop μ-loop) → RowReady (c .before .before .args .t1) (c .before .before .args .paramcount) (c .before .before .args .t3) (c .before .loop .i)
+row-stands : (c : tie.In-loop Inv-loop μ-loop) →
+    RowReady (now (c .before .before .args .qualifiers)) (now (c .before .before .args .typerows)) (c .before .before .args .t3) (c .before .loop .i)
 row-stands c = c .before .before .pre .0 .2 (c .before .loop .i) (c .loop-test .taken)
 
 mul-row : tie.Need-mul-row Inv-loop μ-loop
@@ -48,56 +46,27 @@ mul-row c = omega arith
 array-copy-out-row : tie.Need-array-copy-out-row Inv-loop μ-loop
 array-copy-out-row c = omega arith
 
-parameter-requires : tie.Need-parameter-requires Inv-loop μ-loop
-parameter-requires c κs = search needs
-
--- The parameter that the row names has a place.
-in-params : (c : tie.After-parameter Inv-loop μ-loop) → c .parameter .result < 64
-in-params c =
-    let head = c .before .before .before in
-    rw (c .parameter .ensures) (names-place 64 (head .loop .i) (termIn (head .before .args .t3) (head .loop .i)) (omega arith) (row-stands (c .before .before) .stands))
-
-mul-named : tie.Need-mul-named Inv-loop μ-loop
-mul-named c = omega (arith, in-params c)
-
-array-copy-out-named : tie.Need-array-copy-out-named Inv-loop μ-loop
-array-copy-out-named c = in-params c
-
-standing-requires : tie.Need-standing-requires Inv-loop μ-loop
-standing-requires c κs = search needs
-
--- The parameter at hand is the one that the row names, so that the row stands with it.
-named : (c : tie.After-standing Inv-loop μ-loop) →
-    let head = c .before .before .before .before .before in
-    let args = head .before .args in
-    c .standing .result ≡ paramIn (take (args .paramcount) (args .t1)) (parameterOf (termIn (args .t3) (head .loop .i)))
-named c = rw (c .before .before .parameter .ensures) at (c .standing .ensures (c .before .before .before .before .before .before .args .t1) refl)
-
-stands : (c : tie.After-standing Inv-loop μ-loop) →
-    let head = c .before .before .before .before .before in
-    RowStands (head .loop .i) (termIn (head .before .args .t3) (head .loop .i)) (c .standing .result .qualifier) (c .standing .result .typerow)
-stands c = rw (named c) (row-stands (c .before .before .before .before))
-
 describe-term-requires : tie.Need-describe-term-requires Inv-loop μ-loop
 describe-term-requires c κs =
-    let row = stands (c .before) in
-    let head = c .before .before .before .before .before .before in
-    (head .loop .inv .3 .0, (row .in-list, has-nodes (c .before .standing .result) (head .loop .i) (termIn (head .before .args .t3) (head .loop .i)) (row .stands) (row .qualifier-node) (row .type-node)))
+    let inside = c .before .before in
+    let row = row-stands inside in
+    let i = inside .before .loop .i in
+    (inside .before .loop .inv .3 .0, (row .in-list, has-nodes i (termIn (inside .before .before .args .t3) i) _ _ (row .stands) (row .qualifier-node) (row .type-node)))
 
 -- The turn of row i, once its descriptor is written.
 turn : (c : tie.After-describe-term Inv-loop μ-loop) →
-    let head = c .before .before .before .before .before .before .before in
+    let head = c .before .before .before .before in
     let args = head .before .args in
-    Turn (args .t1) (args .paramcount) (args .t3) (args .rows)
+    Turn (now (args .qualifiers)) (now (args .typerows)) (args .t3) (args .rows)
     (now (args .kids)) (now (args .up)) (now (args .kind)) (now (args .parent)) (now (args .bound))
-    (c .describe-term .last .1 .1 .1 .0) (head .loop .up) (head .loop .kind) (head .loop .parent) (head .loop .bound) (head .loop .i) (c .before .before .standing .result)
+    (c .describe-term .last .1 .1 .1 .1 .0) (head .loop .up) (head .loop .kind) (head .loop .parent) (head .loop .bound) (head .loop .i)
 turn c =
-    let inside = c .before .before .before .before .before .before in
+    let inside = c .before .before .before in
     let inv = inside .before .loop .inv in
     let only = c .describe-term .ensures .0 in
     record {
       below = inside .loop-test .taken;
-      named = named (c .before .before);
+      stands = row-stands inside;
       parts = only .parts;
       ready = ready-kept only (inv .4);
       after = λ m of start. after-kept only (inv .4) (inv .5 m of start);
@@ -105,18 +74,18 @@ turn c =
 
 -- No descriptor of a type row has changed since the start.
 kept : (c : tie.After-describe-term Inv-loop μ-loop) →
-    let head = c .before .before .before .before .before .before .before in
-    Parts (c .describe-term .last .1 .1 .1 .0) × FormsKept (now (head .before .args .kids)) (c .describe-term .last .1 .1 .1 .0)
+    let head = c .before .before .before .before in
+    Parts (c .describe-term .last .1 .1 .1 .1 .0) × FormsKept (now (head .before .args .kids)) (c .describe-term .last .1 .1 .1 .1 .0)
 kept c =
-    let head = c .before .before .before .before .before .before .before in
+    let head = c .before .before .before .before in
     let only = c .describe-term .ensures .0 in
-    (only .parts, forms-kept-more (now (head .before .args .kids)) (head .loop .kids) (c .describe-term .last .1 .1 .1 .0) (head .loop .i) (head .loop .inv .3 .1) only)
+    (only .parts, forms-kept-more (now (head .before .args .kids)) (head .loop .kids) (c .describe-term .last .1 .1 .1 .1 .0) (head .loop .i) (head .loop .inv .3 .1) only)
 
-take-row-requires : tie.Need-take-row-requires Inv-loop μ-loop
-take-row-requires c κs =
+step-requires : tie.Need-step-requires Inv-loop μ-loop
+step-requires c κs =
     let at = c .before .before .before .before .before .before .before in
-    let inv = at .before .before .before .before .before .before .before .loop .inv in
-    (inv .1, (turn at .parts, (inv .2, ((stands (at .before .before), at .describe-term .ensures .1), turn at .ready))))
+    let inv = at .before .before .before .before .loop .inv in
+    (inv .1, (turn at .parts, (inv .2, ((turn at .stands, at .describe-term .ensures .1), turn at .ready))))
 
 enum-told : tie.Need-enum-told Inv-loop μ-loop
 enum-told c = search needs
@@ -130,7 +99,7 @@ loop-less c = omega arith
 loop-again : tie.Need-loop-again Inv-loop μ-loop
 loop-again c =
     let at = c .before .before .before .before .before .before .before .before .before .before in
-    let step = rw (c .enum-told .given .1) at (c .before .before .take-row .ensures) in
+    let step = rw (c .enum-told .given .1) at (c .before .before .step .ensures) in
     (omega (arith, turn at .below), step .0 .types, step .0 .classes, kept at, step .1, went-on (turn at) _ _ _ _ step)
 
 enum-told-2 : tie.Need-enum-told-2 Inv-loop μ-loop
@@ -139,13 +108,13 @@ enum-told-2 c = search needs
 stop-requires : tie.Need-stop-requires Inv-loop μ-loop
 stop-requires c κs =
     let at = c .before .before .before .before .before .before .before .before .before .before .before .before .before in
-    let step = rw (c .before .before .before .enum-told2 .given .1) at (c .before .before .before .before .before .take-row .ensures) in
-    (step .1 .classes, (turn at .parts, (stands (at .before .before) .in-list, step .2)))
+    let step = rw (c .before .before .before .enum-told2 .given .1) at (c .before .before .before .before .before .step .ensures) in
+    (step .1 .classes, (turn at .parts, (turn at .stands .in-list, step .2)))
 
 returns : tie.Need-returns Inv-loop μ-loop
 returns c =
     let at = c .before .before .before .before .before .before .before .before .before .before .before .before .before .before in
-    let step = rw (c .before .before .before .before .enum-told2 .given .1) at (c .before .before .before .before .before .before .take-row .ensures) in
+    let step = rw (c .before .before .before .before .enum-told2 .given .1) at (c .before .before .before .before .before .before .step .ensures) in
     (stopped-shapes (turn at) _ _ _ _ (c .stop .result) step (c .stop .ensures), kept at)
 
 enum-told-3 : tie.Need-enum-told-3 Inv-loop μ-loop
@@ -154,7 +123,7 @@ enum-told-3 c = search needs
 returns-2 : tie.Need-returns-2 Inv-loop μ-loop
 returns-2 c =
     let at = c .before .before .before .before .before .before .before .before .before .before in
-    let step = rw (c .enum-told3 .given .1) at (c .before .before .take-row .ensures) in
+    let step = rw (c .enum-told3 .given .1) at (c .before .before .step .ensures) in
     (stopped-lost (turn at) step, kept at)
 
 enum-told-4 : tie.Need-enum-told-4 Inv-loop μ-loop
@@ -163,13 +132,13 @@ enum-told-4 c = search needs
 stop-requires-2 : tie.Need-stop-requires-2 Inv-loop μ-loop
 stop-requires-2 c κs =
     let at = c .before .before .before .before .before .before .before .before .before .before .before .before .before in
-    let step = rw (c .before .before .before .enum-told4 .given .1) at (c .before .before .before .before .before .take-row .ensures) in
-    (step .0 .types, (turn at .parts, (stands (at .before .before) .in-list, step .1)))
+    let step = rw (c .before .before .before .enum-told4 .given .1) at (c .before .before .before .before .before .step .ensures) in
+    (step .0 .types, (turn at .parts, (turn at .stands .in-list, step .1)))
 
 returns-3 : tie.Need-returns-3 Inv-loop μ-loop
 returns-3 c =
     let at = c .before .before .before .before .before .before .before .before .before .before .before .before .before .before in
-    let step = rw (c .before .before .before .before .enum-told4 .given .1) at (c .before .before .before .before .before .before .take-row .ensures) in
+    let step = rw (c .before .before .before .before .enum-told4 .given .1) at (c .before .before .before .before .before .before .step .ensures) in
     (stopped-apart (turn at) _ _ _ _ (c .stop2 .result) step (c .stop2 .ensures), kept at)
 
 enum-told-5 : tie.Need-enum-told-5 Inv-loop μ-loop
@@ -178,13 +147,13 @@ enum-told-5 c = search needs
 stop-requires-3 : tie.Need-stop-requires-3 Inv-loop μ-loop
 stop-requires-3 c κs =
     let at = c .before .before .before .before .before .before .before .before .before .before .before .before .before in
-    let step = rw (c .before .before .before .enum-told5 .given .1) at (c .before .before .before .before .before .take-row .ensures) in
-    (step .0 .types, (turn at .parts, (stands (at .before .before) .in-list, step .1)))
+    let step = rw (c .before .before .before .enum-told5 .given .1) at (c .before .before .before .before .before .step .ensures) in
+    (step .0 .types, (turn at .parts, (turn at .stands .in-list, step .1)))
 
 returns-4 : tie.Need-returns-4 Inv-loop μ-loop
 returns-4 c =
     let at = c .before .before .before .before .before .before .before .before .before .before .before .before .before .before in
-    let step = rw (c .before .before .before .before .enum-told5 .given .1) at (c .before .before .before .before .before .before .take-row .ensures) in
+    let step = rw (c .before .before .before .before .enum-told5 .given .1) at (c .before .before .before .before .before .before .step .ensures) in
     (stopped-broken (turn at) _ _ _ _ (c .stop3 .result) step (c .stop3 .ensures), kept at)
 
 -- After the loop all rows are taken.
@@ -223,12 +192,8 @@ take-rows-spec =
     loop-holds
     mul-row
     array-copy-out-row
-    parameter-requires
-    mul-named
-    array-copy-out-named
-    standing-requires
     describe-term-requires
-    take-row-requires
+    step-requires
     enum-told
     add-i
     loop-less
