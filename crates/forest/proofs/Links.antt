@@ -68,9 +68,6 @@ reach-after h (further reach below) = further (reach-after h reach) below
 
 -- A node put under its own root has the same readings.
 module _ {p : List ℕ} (f : Forest p) {x r : ℕ} (below : x < 327) (found : Found p x r) where
-  pub shorter-forest : Forest (set p x r)
-  shorter-forest = forest-set f x r below (found .low)
-
   pub shorter-into {ℓ} : {A : Type ℓ} (v : ℕ → A) → Linked p v → Linked (set p x r) v
   shorter-into v linked = linked-into f x r below v linked (reach-same v linked (found .reached))
 

@@ -1,26 +1,29 @@
 -- Each exit of the search answers rightly, and each step keeps the meaning of the marks.
 use Prim.Native.Nat.{ℕ, _-_, _<_, _≤_}
 use native.Mathlib.Omega.{arith}
-use mathlib.Core.Bool.{Bool, true, false}
+use mathlib.Core.Bool.{Bool, true, false, not}
 use mathlib.Core.List.{List}
 use mathlib.Core.Path.{_≡_, refl, sym, ap, subst, _∙_}
 use lib.Dec.{eqb}
 use lib.ListN.{set, length-set}
 use lib.Seq.{getD-set-same, getD-set-other}
-use borrow.Author.Tests.{eq-eqb, ne-eqb, eqb-true}
+use borrow.Author.Tests.{eq-eqb, ne-eqb, eqb-true, not-false}
 use Rattle.model.specs.Typing.{Ty}
 use Rattle.forest.specs.Forest.{up, Reach, here, further, Found}
 use Rattle.forest.proofs.Links.{by-eq}
 use Rattle.graph.specs.Types.{kindAt, argument, result, TypeClasses, Reads}
 use Rattle.graph.specs.Search.{Finite, under, leaf, node, Searched}
 use Rattle.graph.specs.Unused.{Unused}
-use Rattle.occurs.specs.Marks.{markAt, unseen, size, Way, NewArrow, Kept, Walked, Between}
+use Rattle.occurs.specs.Marks.{markAt, unseen, size, Sound, Way, KnownFinite, NewArrow, Kept, Walked, Between}
 use Rattle.graph.proofs.Tally.{tally-less}
 use Rattle.occurs.proofs.Readings.{by-less, TypePart, reads-root, smaller-part}
 use Rattle.occurs.proofs.Marks.{kept-none, marked-finite}
 
 true-false : true ≡ false → ⊥
 true-false e = let z : _≡_ {A = ℕ} 0 1 = cc in omega arith
+
+root-below : {p : List ℕ} {x r : ℕ} → x < 327 → Found p x r → r < 327
+root-below h found = omega (arith, found .low)
 
 module _ {p k kids : List ℕ} where
   -- A node's type is finite where its root's is.
@@ -37,20 +40,34 @@ module _ {p k kids : List ℕ} where
   walked-none none =
       record { finite = λ e. absurd (true-false (sym e)); kept = λ e. absurd (true-false (sym e)); none = λ _. none }
 
-  module _ {m : List ℕ} {x r : ℕ} (h : x < 327) (found : Found p x r) (way : Way p k kids m x) where
-    root-below : r < 327
-    root-below = omega (arith, found .low)
+  -- Past the test of an answer, in a form that both answers have: the part was searched, or it was known and no mark changed.
+  pub came-walked : {m m′ : List ℕ} {x : ℕ} {b : Bool} → Walked p k kids m m′ x b → not b ≡ false → Walked p k kids m m′ x true
+  came-walked w e = let yes = not-false _ e in walked (w .finite yes) (w .kept yes)
 
+  pub came-known : {m : List ℕ} {x : ℕ} {b : Bool} → KnownFinite p k m x b → not b ≡ false → Sound p k kids m → Walked p k kids m m x true
+  came-known known e sound = walked (known _ (not-false _ e) sound) (kept-none sound)
+
+  module _ {x r : ℕ} (h : x < 327) (found : Found p x r) where
+    pub finite-no-arrow : kindAt k r < 2 → Finite p k kids x
+    finite-no-arrow few = finite-reach (found .reached) (leaf (root-below h found) (found .root) few)
+
+    finite-marked : {m : List ℕ} → Sound p k kids m → 2 ≤ markAt m r → Finite p k kids x
+    finite-marked sound e = finite-reach (found .reached) (sound .done r (root-below h found) e)
+
+    pub known-marked : {m : List ℕ} → eqb (markAt m r) 2 ≡ true → Sound p k kids m → Finite p k kids x
+    known-marked {m} e sound = let marked = eqb-true (markAt m r) 2 e in finite-marked sound (omega arith)
+
+  module _ {m : List ℕ} {x r : ℕ} (h : x < 327) (found : Found p x r) (way : Way p k kids m x) where
     pub no-arrow : kindAt k r < 2 → Walked p k kids m m x true
-    no-arrow few = walked (finite-reach (found .reached) (leaf root-below (found .root) few)) (kept-none (way .sound))
+    no-arrow few = walked (finite-no-arrow h found few) (kept-none (way .sound))
 
     pub marked-already : 2 ≤ markAt m r → Walked p k kids m m x true
-    marked-already e = walked (finite-reach (found .reached) (way .sound .done r root-below e)) (kept-none (way .sound))
+    marked-already e = walked (finite-marked h found (way .sound) e) (kept-none (way .sound))
 
     -- The root is on the way to itself: in a reading its type would be larger than itself.
     pub contains-itself : markAt m r ≡ 1 → Walked p k kids m m x false
     contains-itself e =
-        walked-none (λ t v reads. omega (arith, way .larger r root-below e t v reads, ap size (reads-root reads found)))
+        walked-none (λ t v reads. omega (arith, way .larger r (root-below h found) e t v reads, ap size (reads-root reads found)))
 
     -- The search goes on to the root, which has the node's type in every reading.
     pub way-root : Way p k kids m r
@@ -61,7 +78,7 @@ module _ {p k kids : List ℕ} where
         }
 
     pub new-arrow : 2 ≤ kindAt k r → markAt m r ≡ 0 → NewArrow p k m r
-    new-arrow many e = record { node = root-below; root = found .root; arrow = many; unmet = e }
+    new-arrow many e = record { node = root-below h found; root = found .root; arrow = many; unmet = e }
 
     -- The answer for the root is the node's.
     pub walked-root : {m′ : List ℕ} {b : Bool} → Walked p k kids m m′ r b → Walked p k kids m m′ x b

@@ -34,6 +34,10 @@ pub record Way (p k kids m : List ℕ) (x : ℕ) : Type 0 where
   pub larger :
       (y : ℕ) → y < 327 → markAt m y ≡ 1 → (t : ℕ → Ty ℕ) (v : ℕ → ℕ) → Reads p k kids t v → size (t x) < size (t y)
 
+-- Where the marks are sound a node that is called known is finite.
+abbrev pub KnownFinite : (p k m : List ℕ) (x : ℕ) → Bool → Type 0
+KnownFinite p k m x r = (kids : List ℕ) → r ≡ true → Sound p k kids m → Finite p k kids x
+
 -- A root that is an arrow and was not met yet.
 pub record NewArrow (p k m : List ℕ) (x : ℕ) : Type 0 where
   pub node : x < 327

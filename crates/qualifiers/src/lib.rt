@@ -9,8 +9,8 @@ ghost use Rattle.forest.specs.Forest.{Forest};
 ghost use Rattle.forest.specs.Pairs.{Pairs};
 ghost use Rattle.qualifiers.specs.Classes.{boundAt, Classes, Roots, United, Class, UnitedAll, Restricted, Tested, Greatest};
 
-// Where two constants would be one: no node has this number.
-const APART: usize = 327;
+// The answer where two constants would be one: no node has this number.
+pub const APART: usize = 327;
 
 // Puts a root under a smaller one, which takes the meet of the two bounds; RAND leaves the other as it is. The smaller one, or APART: both are constants.
 fn join(parent: &mut [u16; 327], bound: &mut [u8; 327], low: usize, high: usize) -> usize

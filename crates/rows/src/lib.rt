@@ -54,7 +54,7 @@ fn op_row(
     }
     kind[i + 64] = 1;
     let class = qualifiers::unite(parent, bound, r + 71, l + 71);
-    if class == 327 {
+    if class == qualifiers::APART {
         return Verdict::Apart;
     }
     let result = scheme::result(o, class as u16) as usize;
@@ -138,8 +138,8 @@ fn bind(
     false
 }
 
-// The equation of an APP row. A function that is unknown becomes the arrow of the row; of one that is an arrow the row's own node, which is new, is
-// put under the result, and the argument is made one with the argument.
+// The equation of an APP row. A function that is unknown becomes the arrow of the row. Where it is an arrow, the row's own node, which is new, is put
+// under the arrow's result, and the row's argument made one with the arrow's.
 fn apply(
     up: &mut [u16; 327],
     kind: &mut [u16; 327],

@@ -102,7 +102,7 @@ arrows-below noted is-x is-y m d e pairs = (omega (arith, d .argument-node), ome
 
 -- A node is made INT or an arrow at its root.
 module _ {kids p k p₁ : List ℕ} {x r : ℕ} (at : AtRoot p k p₁ x r) where
-  pub made : {E : Equation} (m : ℕ) → m < 322 → kindAt k r ≡ 0
+  made : {E : Equation} (m : ℕ) → m < 322 → kindAt k r ≡ 0
       → ((t : ℕ → Ty ℕ) (v : ℕ → ℕ) → (E t v → Has kids t v m (t x)) × (Has kids t v m (t x) → E t v)) → Reduced kids p k p₁ (set k r m) E Always
   made m small unknown says =
       record {

@@ -4,19 +4,15 @@ use native.Mathlib.Omega.{arith}
 use mathlib.Core.List.{List}
 use mathlib.Core.Path.{_≡_, sym, _∙_}
 use lib.ListN.{set}
-use Rattle.model.specs.Typing.{Ty}
 use Rattle.forest.specs.Forest.{up, Hung}
 use Rattle.forest.proofs.Links.{reach-same, linked-into, linked-outof, linked-joins}
 use Rattle.graph.specs.Types.{kindAt, TypeClasses, Same, IsInt, IsArrow}
 use Rattle.unification.specs.Merging.{Equation, Always, Reduced}
-use Rattle.unification.proofs.Classes.{Has, relinked, parent-classes, roots-less}
+use Rattle.unification.proofs.Classes.{relinked, parent-classes, roots-less}
 use Rattle.unification.proofs.Merging.{at-own}
-use Rattle.unification.proofs.Answering.{made, made-int, made-arrow}
+use Rattle.unification.proofs.Answering.{made-int, made-arrow}
 
 module _ {kids p k : List ℕ} {x : ℕ} (classes : TypeClasses p k) (below : x < 327) (root : up p x ≡ x) (unknown : kindAt k x ≡ 0) where
-  pub new-kind : {E : Equation} (m : ℕ) → m < 322 → ((t : ℕ → Ty ℕ) (v : ℕ → ℕ) → (E t v → Has kids t v m (t x)) × (Has kids t v m (t x) → E t v)) → Reduced kids p k p (set k x m) E Always
-  new-kind m small = made (at-own classes below root) m small unknown
-
   pub new-int : Reduced kids p k p (set k x 1) (IsInt x) Always
   new-int = made-int (at-own classes below root) unknown
 
