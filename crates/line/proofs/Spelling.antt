@@ -1,12 +1,11 @@
 -- The loops that compare bytes and look a word up, and a named variable by its first byte and its number.
-use Prim.Native.Nat.{ℕ, suc, _+_, _-_, _≤_, _<_}
+use Prim.Native.Nat.{ℕ, _+_, _-_, _≤_, _<_}
 use native.Mathlib.Omega.{arith}
 use native.Mathlib.Nat.{add-zero, add-suc}
 use native.Mathlib.Numerals.{add-one}
-use mathlib.Core.Bool.{Bool, true, false, and-false}
+use mathlib.Core.Bool.{Bool, true, false}
 use mathlib.Core.List.{List, [], _∷_}
-use mathlib.Core.Path.{_≡_, refl, sym, ap, _∙_}
-use lib.Dec.{eqb}
+use mathlib.Core.Path.{_≡_, refl, sym, _∙_}
 use lib.ListN.{length, getD, take, drop, drop-of-length-le}
 use lib.Seq.{drop-cons, take-all}
 use mir.Syntax.{w32}
@@ -18,14 +17,8 @@ use Rattle.model.specs.Line.{fields, field}
 use Rattle.model.specs.Word.{spells, placeIn, orElse, variableCode, variableOf}
 use Rattle.model.specs.declared.Field.{Field}
 use Rattle.model.specs.declared.Field.the-variants.{Value, NoValue}
+use Rattle.model.proofs.Lists.{same-length}
 use Rattle.line.proofs.Bounds.{number-at-most}
-
--- Bytes of another count are not the same.
-pub same-length : (s t : List ℕ) → (length s ≡ length t → ⊥) → false ≡ same s t
-same-length [] [] h = absurd (h refl)
-same-length [] (b ∷ bs) h = refl
-same-length (a ∷ as′) [] h = refl
-same-length (a ∷ as′) (b ∷ bs) h = simp (sym (same-length as′ bs (λ e. h (ap suc e)))) (sym (and-false (eqb a b)))
 
 -- After i bytes the rest decides.
 pub record Compared (s t : List ℕ) (i : ℕ) : Type 0 where

@@ -1,9 +1,9 @@
 // Reads a line: which of the ten forms its bytes are, with the numbers and codes that stand in it.
 mod fields;
 mod forms;
-mod numbers;
+pub mod numbers;
 mod values;
-mod words;
+pub mod words;
 
 ghost use mathlib.Core.Path.{_≡_};
 ghost use Rattle.model.specs.Line.{typeLine, leafLine, termLine, lineOf};

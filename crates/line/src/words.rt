@@ -10,7 +10,7 @@ use crate::numbers;
 use model::Field;
 
 // Whether both have the same bytes.
-pub(crate) fn same(s: &[u8], t: &[u8]) -> bool
+pub fn same(s: &[u8], t: &[u8]) -> bool
     ensures { λ r. ⌜ r ≡ same (now (s .entry)) (now (t .entry)) ⌝ }
 {
     if s.len() != t.len() {

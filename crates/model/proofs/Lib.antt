@@ -1,3 +1,5 @@
+pub mod Lists
+pub mod Digits
 pub mod Fewer
 pub mod Weaker
 pub mod Unique
@@ -5,5 +7,8 @@ pub mod Six
 pub mod Answers
 pub mod Checks
 pub mod Limits
+pub mod Numbers
 pub mod Length
+pub mod Scripts
+pub mod LongLines
 pub mod Examples

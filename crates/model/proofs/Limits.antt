@@ -9,6 +9,7 @@ use lib.ListN.{length, set, take, length-append, length-take, length-set}
 use borrow.Author.Tests.{ltb-true}
 use Rattle.model.specs.Line.{lineOf}
 use Rattle.model.specs.Machine.{Machine, freshMachine, settled, firstFailing, paramAt, typeRefusal, paramRefusal, termRefusal, entered, added, redeclared, takenBack}
+use Rattle.model.specs.WellFormed.{WellFormed}
 use Rattle.model.specs.Session.{Call, Outcome, Answers, adds, redeclares, takes-back, infers}
 use Rattle.model.specs.declared.Line.{Line}
 use Rattle.model.specs.declared.Line.the-variants.{TypeLine, ParamLine, TermLine, NoForm}
@@ -18,6 +19,9 @@ pub record Within (m : Machine) : Type 0 where
   pub types : length (m .types) ≤ 64
   pub params : length (m .params) ≤ 64
   pub terms : length (m .terms) ≤ 256
+
+pub well-formed-within : (m : Machine) → WellFormed m → Within m
+well-formed-within m w = record { types = w .types-fit; params = w .params-fit; terms = w .terms-fit }
 
 pub fresh-within : Within freshMachine
 fresh-within = record { types = omega arith; params = omega arith; terms = omega arith }

@@ -11,3 +11,4 @@ pub mod Inference
 pub mod Report
 pub mod Session
 pub mod Text
+pub mod Script

@@ -21,6 +21,11 @@ pub record Wrote (l : List ℕ) (i : ℕ) (w l′ : List ℕ) (i′ : ℕ) : Typ
   pub bytes : l′ ≡ sets l i w
   pub end : i′ ≡ i + length w
 
+-- The text w stands at the front of the buffer l, which is size bytes of it.
+pub record Front (w l : List ℕ) (size : ℕ) : Type 0 where
+  pub bytes : take size l ≡ w
+  pub fits : size ≤ length l
+
 -- The first bytes of an array are the word.
 pub record Spells (array : List ℕ) (size : ℕ) (word : List ℕ) : Type 0 where
   pub bytes : take size array ≡ word

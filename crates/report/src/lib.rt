@@ -40,18 +40,27 @@ fn shape_word(code: u8) -> Word
     }
 }
 
-// Writes a field and the byte that ends it.
-fn write_field(buffer: &mut [u8], at: usize, text: &[u8], end: u8) -> usize
-    requires { ⌜ Room (now buffer) at (now text ++ (end ∷ [])) ⌝ }
-    ensures { λ r. ⌜ Wrote (now (buffer .entry)) at (now (text .entry) ++ (end ∷ [])) (now (buffer .exit)) r ⌝ }
+// Writes a text, and returns the place after it, as the next ones do.
+pub fn write_text(buffer: &mut [u8], at: usize, text: &[u8]) -> usize
+    requires { ⌜ Room (now buffer) at (now text) ⌝ }
+    ensures { λ r. ⌜ Wrote (now (buffer .entry)) at (now (text .entry)) (now (buffer .exit)) r ⌝ }
 {
     let mut i = 0;
     while i < text.len() {
         buffer[at + i] = text[i];
         i += 1;
     }
-    buffer[at + i] = end;
-    at + i + 1
+    at + i
+}
+
+// Writes a field and the byte that ends it.
+fn write_field(buffer: &mut [u8], at: usize, text: &[u8], end: u8) -> usize
+    requires { ⌜ Room (now buffer) at (now text ++ (end ∷ [])) ⌝ }
+    ensures { λ r. ⌜ Wrote (now (buffer .entry)) at (now (text .entry) ++ (end ∷ [])) (now (buffer .exit)) r ⌝ }
+{
+    let last = write_text(buffer, at, text);
+    buffer[last] = end;
+    last + 1
 }
 
 // Writes the digits of a number: those of its tenth part first.
@@ -69,7 +78,7 @@ fn write_digits(buffer: &mut [u8], at: usize, n: usize) -> usize
 }
 
 // Writes a number and the byte that ends its field.
-fn write_number(buffer: &mut [u8], at: usize, n: usize, end: u8) -> usize
+pub fn write_number(buffer: &mut [u8], at: usize, n: usize, end: u8) -> usize
     requires { ⌜ Room (now buffer) at (decimal n ++ (end ∷ [])) ⌝ }
     ensures { λ r. ⌜ Wrote (now (buffer .entry)) at (decimal n ++ (end ∷ [])) (now (buffer .exit)) r ⌝ }
 {

@@ -13,9 +13,10 @@ use Rattle.model.specs.Machine.{Machine, freshMachine, added}
 use Rattle.model.specs.Session.{adds}
 use Rattle.model.specs.Text.{linesOf, stopped, loadFrom, load, Prints, Returns}
 use Rattle.model.proofs.Limits.{Within, fresh-within, answers-within}
+use Rattle.model.proofs.LongLines.{long-refused}
 use Rattle.text.specs.Lines.{lineLength}
 use Rattle.text.proofs.Lines.{line-length-most, line-length-front, lines-first}
-use Rattle.text.proofs.Accepted.{entries, fresh-entries, added-longer, entries-most, long-refused}
+use Rattle.text.proofs.Accepted.{entries, fresh-entries, added-longer, entries-most}
 use Rattle.text.proofs.Turns.{load-line}
 
 drop-take : (n k : ℕ) (s : List ℕ) → drop n (take k s) ≡ take (k - n) (drop n s)

@@ -9,17 +9,14 @@ use lib.Dec.{eqb}
 use lib.ListN.{length, getD, take, drop, length-drop, drop-of-length-le}
 use lib.Seq.{drop-cons, drop-drop}
 use borrow.Author.Tests.{eq-eqb, ne-eqb}
+use Rattle.model.specs.Lists.{lengthBefore}
 use Rattle.model.specs.Line.{onto}
 use Rattle.model.specs.Text.{linesOf}
+use Rattle.model.proofs.Lists.{before-most}
 use Rattle.text.specs.Lines.{lineLength}
 
 pub line-length-most : (s : List ℕ) → lineLength s ≤ length s
-line-length-most [] = omega arith
-line-length-most (b ∷ bs) = by (eqb b 10) (line-length-most bs)
-  where
-    by : (t : Bool) → lineLength bs ≤ length bs → cond t 0 (suc (lineLength bs)) ≤ suc (length bs)
-    by true h = omega arith
-    by false h = omega arith
+line-length-most s = before-most 10 s
 
 pub line-length-front : (n : ℕ) (s : List ℕ) → lineLength (take n s) ≡ min n (lineLength s)
 line-length-front zero s = omega arith
@@ -53,20 +50,20 @@ module _ (text : List ℕ) (from to : ℕ) (h : from < length text) (is : to ≡
       let next : from + suc (lineLength (drop from text)) ≡ to + 1 = omega arith in
       lines-first (drop from text) some ∙ rw (size, drop-drop (suc (lineLength (drop from text))) from text, next)
 
--- The loop that looks for a line's end, at a line feed, at another byte, and past the last byte.
-module _ (s : List ℕ) (i end : ℕ) (left : i + lineLength (drop i s) ≡ end) where
-  pub end-none : length s ≤ i → i ≡ end
-  end-none h = omega (arith, ap lineLength (drop-of-length-le s h))
+-- The loop that looks for a byte: at it, at another byte, and past the last byte.
+module _ (b : ℕ) (s : List ℕ) (i end : ℕ) (left : i + lengthBefore b (drop i s) ≡ end) where
+  pub find-none : length s ≤ i → i ≡ end
+  find-none h = omega (arith, ap (lengthBefore b) (drop-of-length-le s h))
 
   module _ (h : i < length s) where
-    pub end-feed : getD s i 0 ≡ 10 → i ≡ end
-    end-feed e =
-        let none : lineLength (drop i s) ≡ 0 = simp (drop-cons s i 0 h, eq-eqb (getD s i 0) 10 e) in
+    pub find-here : getD s i 0 ≡ b → i ≡ end
+    find-here e =
+        let none : lengthBefore b (drop i s) ≡ 0 = simp (drop-cons s i 0 h, eq-eqb (getD s i 0) b e) in
         omega arith
 
-    pub end-other : (getD s i 0 ≡ 10 → ⊥) → i + 1 + lineLength (drop (i + 1) s) ≡ end
-    end-other e =
-        let one : lineLength (drop i s) ≡ suc (lineLength (drop (i + 1) s)) = simp (drop-cons s i 0 h, ne-eqb (getD s i 0) 10 e, add-one) in
+    pub find-other : (getD s i 0 ≡ b → ⊥) → i + 1 + lengthBefore b (drop (i + 1) s) ≡ end
+    find-other e =
+        let one : lengthBefore b (drop i s) ≡ suc (lengthBefore b (drop (i + 1) s)) = simp (drop-cons s i 0 h, ne-eqb (getD s i 0) b e, add-one) in
         omega arith
 
-pub ruleset ends = (end-none, end-feed, end-other)
+pub ruleset finds = (find-none, find-here, find-other)

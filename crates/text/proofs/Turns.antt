@@ -20,7 +20,9 @@ use Rattle.table.proofs.WellFormed.{fresh-well-formed, answers-well-formed}
 use Rattle.text.specs.Lines.{lineLength}
 use Rattle.text.specs.Loads.{Loads}
 use Rattle.text.proofs.Lines.{end-bound, line-part}
-use Rattle.text.proofs.Accepted.{entries, fresh-entries, added-longer, added-most, entries-most, well-formed-within}
+use Rattle.model.proofs.Limits.{well-formed-within}
+use Rattle.model.proofs.Numbers.{added-most}
+use Rattle.text.proofs.Accepted.{entries, fresh-entries, added-longer, entries-most}
 
 -- One line, and the rest.
 pub load-line : (m : Machine) (n : ℕ) (s : List ℕ) (rest : List (List ℕ)) →

@@ -28,7 +28,7 @@ write-qualifier-requires c κs =
 write-shape-requires : tie.Need-write-shape-requires
 unfolding slotText
 write-shape-requires c κs =
-    last-room _
+    last-room _ _
     (rest-room _ _ _
     (rest-room _ _ _
     (rest-room (_ ∷ []) _ _ (c .before .before .before .before .before .before .before .before .before .before .before .before .before .before .before .pre) (c .before .before .before .before .before .before .before .before .before .before .before .write-field .ensures))

@@ -21,7 +21,7 @@ write-number-requires c κs =
 
 write-qualifier-requires : tie.Need-write-qualifier-requires
 write-qualifier-requires c κs =
-    last-room _
+    last-room _ _
     (rest-room _ _ _
     (rest-room (bytes "G") _ _
     (listed-room _ _ (c .before .before .before .before .before .before .before .before .before .before .if1 .taken) (c .before .before .before .before .before .before .before .before .before .before .before .before .pre))

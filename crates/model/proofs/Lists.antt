@@ -1,0 +1,23 @@
+-- Bytes of another count are not the same; and no more bytes stand before the first of a kind than there are.
+use Prim.Native.Nat.{ℕ, suc, _≤_}
+use native.Mathlib.Omega.{arith}
+use mathlib.Core.Bool.{Bool, true, false, cond, and-false}
+use mathlib.Core.List.{List, [], _∷_}
+use mathlib.Core.Path.{_≡_, refl, sym, ap}
+use lib.Dec.{eqb}
+use lib.ListN.{length}
+use Rattle.model.specs.Lists.{same, lengthBefore}
+
+pub same-length : (s t : List ℕ) → (length s ≡ length t → ⊥) → false ≡ same s t
+same-length [] [] h = absurd (h refl)
+same-length [] (b ∷ bs) h = refl
+same-length (a ∷ as′) [] h = refl
+same-length (a ∷ as′) (b ∷ bs) h = simp (sym (same-length as′ bs (λ e. h (ap suc e)))) (sym (and-false (eqb a b)))
+
+pub before-most : (b : ℕ) (s : List ℕ) → lengthBefore b s ≤ length s
+before-most b [] = omega arith
+before-most b (c ∷ cs) = by (eqb c b) (before-most b cs)
+  where
+    by : (t : Bool) → lengthBefore b cs ≤ length cs → cond t 0 (suc (lengthBefore b cs)) ≤ suc (length cs)
+    by true h = omega arith
+    by false h = omega arith

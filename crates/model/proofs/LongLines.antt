@@ -1,0 +1,99 @@
+-- The answer to a line of a script is decided by its first 69 bytes: a line of so many or more is an add that is refused with 1, or no command.
+use Prim.Native.Nat.{ℕ, _≤_, _<_}
+use native.Mathlib.Omega.{arith}
+use native.Mathlib.Decide.{decLe}
+use mathlib.Core.Bool.{Bool, true, false, cond}
+use mathlib.Core.List.{List, [], _∷_}
+use mathlib.Core.Path.{_≡_, refl, sym, ap, subst, _∙_}
+use lib.ListN.{length, take, drop, length-take, length-drop}
+use lib.Seq.{take-all, take-take}
+use borrow.Author.Tests.{lt-leb}
+use Rattle.model.specs.Lists.{same, lengthBefore, bytes}
+use Rattle.model.specs.Number.{decimal}
+use Rattle.model.specs.Line.{choose, lineOf}
+use Rattle.model.specs.Machine.{Machine, Change, settled, entered, added}
+use Rattle.model.specs.Report.{line}
+use Rattle.model.specs.Session.{adds}
+use Rattle.model.specs.Script.{Command, begins, beforeBlank, afterBlank, argument, redeclareOf, commandOf, Makes, unknown, Replies}
+use Rattle.model.specs.Script as Script
+use Rattle.model.specs.declared.Field.{Field}
+use Rattle.model.specs.declared.Field.the-variants.{Value, NoValue}
+use Rattle.model.specs.declared.Line.the-variants.{NoForm}
+use Rattle.model.proofs.Lists.{same-length, before-most}
+use Rattle.model.proofs.Digits.{long-number}
+use Rattle.model.proofs.Scripts.{replies-same}
+
+-- None of the forms is refused with 1, and nothing changes.
+pub no-form-entered : (m : Machine) → entered m NoForm ≡ record { number = 1; machine = m }
+unfolding entered settled
+no-form-entered m = refl
+
+-- "line longer than 64 bytes"
+long-no-form : (s : List ℕ) → 64 < length s → lineOf s ≡ NoForm
+unfolding lineOf choose
+long-no-form s h = simp (lt-leb (length s) 64 h)
+
+long-entered : (m : Machine) (s : List ℕ) → 64 < length s → added m s ≡ record { number = 1; machine = m }
+unfolding added
+long-entered m s h = ap (entered m) (long-no-form s h) ∙ no-form-entered m
+
+pub long-refused : (m : Machine) (s : List ℕ) → 64 < length s → added m s .number ≡ 1
+long-refused m s h = ap (λ (c : Change). c .number) (long-entered m s h)
+
+-- A redeclare needs both of its numbers.
+pub no-code : (p : Field) → redeclareOf p NoValue ≡ Script.no-command
+no-code (Value p) = refl
+no-code NoValue = refl
+
+-- Of more than 21 bytes more than ten stand before the first blank or after it.
+long-redeclare : (s : List ℕ) → 21 < length s → redeclareOf (argument (beforeBlank s)) (argument (afterBlank s)) ≡ Script.no-command
+long-redeclare s h = by (decLe (lengthBefore 32 s) 10)
+  where
+    by : Dec (lengthBefore 32 s ≤ 10) → redeclareOf (argument (beforeBlank s)) (argument (afterBlank s)) ≡ Script.no-command
+    by (yes few) =
+        let long : 10 < length (afterBlank s) = simp length-drop (omega arith) in
+        simp (long-number (afterBlank s) long) (no-code (argument (beforeBlank s)))
+    by (no many) =
+        let within : lengthBefore 32 s ≤ length s = before-most 32 s in
+        let long : 10 < length (beforeBlank s) = simp length-take (omega arith) in
+        simp (long-number (beforeBlank s) long)
+
+no-other : (redeclares : Bool) {takes-back infers : Bool} {c : Command} → c ≡ Script.no-command → takes-back ≡ false → infers ≡ false →
+    cond redeclares c (cond takes-back Script.take-back (cond infers Script.infer Script.no-command)) ≡ Script.no-command
+no-other true e f g = e
+no-other false e f g = simp (f, g)
+
+-- So a line of more than 31 bytes is an add, or no command.
+long-command : (s : List ℕ) → 31 < length s → commandOf s ≡ cond (begins (bytes "add ") s) (Script.add (drop 4 s)) Script.no-command
+unfolding commandOf
+long-command s h =
+    let taken : same s (bytes "take-back") ≡ false = sym (same-length s (bytes "take-back") λ e. omega arith) in
+    let inferred : same s (bytes "infer") ≡ false = sym (same-length s (bytes "infer") λ e. omega arith) in
+    let long : 21 < length (drop 10 s) = simp length-drop (omega arith) in
+    ap (cond (begins (bytes "add ") s) (Script.add (drop 4 s))) (no-other (begins (bytes "redeclare ") s) (long-redeclare (drop 10 s) long) taken inferred)
+
+module _ (m : Machine) where
+  add-reply : (s t : List ℕ) → commandOf s ≡ Script.add t → 64 < length t → Replies m s (line (decimal 1 ∷ [])) m
+  add-reply s t e h =
+      subst (λ (c : Change). Replies m s (line (decimal (c .number) ∷ [])) (c .machine)) (long-entered m t h) (Replies.calls (rw e Makes.adds) adds)
+
+  -- A line of more than 68 bytes changes nothing.
+  pub long-reply : (s : List ℕ) → 68 < length s → Replies m s (cond (begins (bytes "add ") s) (line (decimal 1 ∷ [])) unknown) m
+  long-reply s h = by (begins (bytes "add ") s) (long-command s (omega arith))
+    where
+      by : (t : Bool) → commandOf s ≡ cond t (Script.add (drop 4 s)) Script.no-command → Replies m s (cond t (line (decimal 1 ∷ [])) unknown) m
+      by true e = add-reply s (drop 4 s) e (simp length-drop (omega arith))
+      by false e = Replies.passes e
+
+begins-front : (word s : List ℕ) (n : ℕ) → length word ≤ n → begins word (take n s) ≡ begins word s
+begins-front word s n h = ap (λ (t : List ℕ). same t word) (take-take (length word) n s h)
+
+pub reply-front : {m : Machine} {s w : List ℕ} {after : Machine} → Replies m (take 69 s) w after → Replies m s w after
+reply-front {m} {s} {w} {after} r = by (decLe (length s) 69)
+  where
+    by : Dec (length s ≤ 69) → Replies m s w after
+    by (yes short) = rw (take-all 69 s short) at r
+    by (no long) =
+        let front : 68 < length (take 69 s) = simp length-take (omega arith) in
+        let same = replies-same r (long-reply m (take 69 s) front) in
+        rw (same .0, same .1, begins-front (bytes "add ") s 69 (omega arith)) (long-reply m s (omega arith))
