@@ -16,7 +16,7 @@ use Rattle.model.proofs.Unique.{judged-accepted}
 use Rattle.model.proofs.Limits.{Within}
 use Rattle.model.proofs.Length.{report-length}
 
-cause-number : {m : Machine} {k number : ℕ} → Cause six m k number → (21 ≤ number) × (number ≤ 23)
+pub cause-number : {m : Machine} {k number : ℕ} → Cause six m k number → (21 ≤ number) × (number ≤ 23)
 cause-number (Cause.shapes none) = (omega arith, omega arith)
 cause-number (Cause.qualifiers some none) = (omega arith, omega arith)
 cause-number (Cause.bounds some) = (omega arith, omega arith)

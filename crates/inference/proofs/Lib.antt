@@ -2,3 +2,4 @@ pub mod Judging
 pub mod Follows
 pub mod Corollaries
 pub mod Contracts
+pub mod Printing

@@ -9,6 +9,7 @@ ghost use Rattle.table.specs.Lists.{lists};
 ghost use Rattle.report.specs.Codes.{codesOf};
 ghost use Rattle.solver.specs.Runs.{Solves};
 ghost use Rattle.inference.specs.Outcome.{outcome};
+ghost use Rattle.inference.specs.Printed.{Printed};
 use solver::Answer;
 use table::Table;
 
@@ -34,6 +35,18 @@ pub fn infer(table: Table, buffer: &mut [u8]) -> Inferred
         return refusal(10, 0);
     }
     place(table, buffer)
+}
+
+// Infers, and writes what is printed of that at the front of the buffer: the report, or the line of the refusal. Returns its length.
+pub fn print(table: Table, buffer: &mut [u8]) -> usize
+    requires { ⌜ WellFormed (lists table) × (6280 ≤ length (now buffer)) ⌝ }
+    ensures { λ r. ⌜ Printed (lists table) (now (buffer .entry)) (now (buffer .exit)) r ⌝ }
+{
+    let inferred = infer(table, buffer);
+    if inferred.number != 0 {
+        return report::write_pair(buffer, 0, b"NO", inferred.number as usize, inferred.row);
+    }
+    inferred.size
 }
 
 fn refusal(number: u16, row: usize) -> Inferred

@@ -55,7 +55,7 @@ in-place i j g xs =
 
 module _ {M : Type 1} {𝓤 : URA M} {H : Heap 𝓤} {A : Atoms 𝓤} {K : Type 0} {W : Given 𝓤 H A} {Γ : List (Item 𝓤)} where
   -- a place that begins at a local whose spot is known
-  at-local : K → {E : Env 𝓤 H} {i : ℕ} {st : List PStep} {sp sp′ : Spot 𝓤 H} → spotOf 𝓤 H E i ≡ sp → Walks K W Γ E sp st sp′ → Finds K W Γ E (place i st) sp′
+  pub at-local : K → {E : Env 𝓤 H} {i : ℕ} {st : List PStep} {sp sp′ : Spot 𝓤 H} → spotOf 𝓤 H E i ≡ sp → Walks K W Γ E sp st sp′ → Finds K W Γ E (place i st) sp′
   at-local t {E} {i} {st} e w = record { go = λ Kt h. subst (λ (s : Spot 𝓤 H). ent 𝓤 (⋆ 𝓤 H A Γ) (walk 𝓤 H E s st Kt)) (sym e) (w .go Kt h) }
 
   -- a parameter is passed. Its place in the context follows from the local that the code names, so what is passed is whatever that local holds

@@ -4,41 +4,28 @@ use borrow.Author.Tests.{not-false}
 use Rattle.inference.proofs.Judging.{short-refused, open-refused}
 use Rattle.inference.proofs.infer.Statement.{statement}
 use Rattle.inference.proofs.infer.Tie as tie
-use Rattle.inference.proofs.infer.Reads as reads
-use Rattle.inference.proofs.infer.Lts as lts
-use Rattle.closed.proofs.is_closed.Reads as is-closed-reads
-use Rattle.inference.proofs.place.Reads as place-reads
-use Rattle.inference.proofs.refusal.Reads as refusal-reads
 
--- src/lib.rt:29:9
 refusal-requires : tie.Need-refusal-requires
 refusal-requires c κs = search needs
 
--- src/lib.rt:29:9
 returns : tie.Need-returns
 returns c = short-refused _ _ _ (c .before .if1 .taken) (c .refusal .ensures)
 
--- src/lib.rt:31:9
 is-closed-requires : tie.Need-is-closed-requires
 is-closed-requires c κs = search needs
 
--- src/lib.rt:32:9
 refusal-requires-2 : tie.Need-refusal-requires-2
 refusal-requires-2 c κs = search needs
 
--- src/lib.rt:32:9
 returns-2 : tie.Need-returns-2
 returns-2 c = open-refused _ _ _ (c .before .before .before .if1 .left) _ (c .before .before .is-closed .ensures) (c .before .if2 .taken) (c .refusal2 .ensures)
 
--- src/lib.rt:34:5
 place-requires : tie.Need-place-requires
 place-requires c κs = (c .before .before .before .before .before .pre, c .before .before .is-closed .ensures .closed (not-false _ (c .before .if2 .left)), c .before .before .before .if1 .left)
 
--- src/lib.rt:24:1
 same-length : tie.Need-same-length
 same-length c = search needs
 
--- src/lib.rt:24:1
 returns-3 : tie.Need-returns-3
 returns-3 c = search needs
 

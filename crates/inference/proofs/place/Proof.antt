@@ -4,55 +4,37 @@ use borrow.Author.Needs.{needs}
 use Rattle.inference.proofs.Judging.{row-refused, report-written}
 use Rattle.inference.proofs.place.Statement.{statement}
 use Rattle.inference.proofs.place.Tie as tie
-use Rattle.inference.proofs.place.Reads as reads
-use Rattle.inference.proofs.place.Lts as lts
-use Rattle.inference.proofs.refusal.Reads as refusal-reads
-use Rattle.inference.proofs.solve.Reads as solve-reads
-use Rattle.report.proofs.write.Reads as write-reads
-use Rattle.table.proofs.Table.parameters.Reads as parameters-reads
-use Rattle.table.proofs.Table.term_rows.Reads as term-rows-reads
 
--- src/lib.rt:59:11
 solve-requires : tie.Need-solve-requires
 solve-requires c κs = (c .before .before .before .before .before .before .pre .0, c .before .before .before .before .before .before .pre .1 .some-row)
 
--- src/lib.rt:69:17
 enum-told : tie.Need-enum-told
 enum-told c = search needs
 
--- src/lib.rt:75:17
 parameters-requires : tie.Need-parameters-requires
 parameters-requires c κs = search needs
 
--- src/lib.rt:76:17
 term-rows-requires : tie.Need-term-rows-requires
 term-rows-requires c κs = search needs
 
--- src/lib.rt:68:17
 write-requires : tie.Need-write-requires
 write-requires c κs = search needs
 
--- src/lib.rt:84:25
 enum-known-number : tie.Need-enum-known-number
 enum-known-number c = search needs
 
--- src/lib.rt:84:49
 cast-refusal : tie.Need-cast-refusal
 cast-refusal c = search needs
 
--- src/lib.rt:84:41
 refusal-requires : tie.Need-refusal-requires
 refusal-requires c κs = search needs
 
--- src/lib.rt:50:1
 same-length : tie.Need-same-length
 same-length c = search needs
 
--- src/lib.rt:50:1
 returns : tie.Need-returns
 returns c = report-written _ _ _ (c .before .before .before .before .before .before .before .before .before .before .before .before .before .before .before .before .before .before .before .before .pre .2) (c .before .before .before .before .before .before .before .before .before .before .before .before .before .before .before .before .before .before .before .before .pre .1) _ _ _ _ _ (rw (c .before .before .before .before .before .before .before .before .before .before .before .enum-told .given .1) at (c .before .before .before .before .before .before .before .before .before .before .before .before .before .solve .ensures)) (sym (c .before .before .before .before .parameters .ensures .0)) (sym (c .before .before .before .term-rows .ensures .0)) (c .before .before .write .ensures) (refl, refl, refl)
 
--- src/lib.rt:50:1
 returns-2 : tie.Need-returns-2
 returns-2 c = row-refused _ _ _ (c .before .before .before .before .before .before .before .before .before .before .before .pre .2) (c .before .before .before .before .before .before .before .before .before .before .before .pre .1) _ _ (rw (c .before .before .number .given .1) at (c .before .before .before .before .solve .ensures)) (c .refusal .ensures)
 

@@ -1,0 +1,89 @@
+-- The commands are tried in turn.
+use Prim.Native.Nat.{_≤_}
+use native.Mathlib.Omega.{arith}
+use lib.ListN.{length}
+use Rattle.model.specs.Lists.{bytes}
+use Rattle.model.specs.Script.{commandOf}
+use Rattle.command.specs.Said.{said}
+use borrow.Author.Needs.{needs}
+use Rattle.command.proofs.Reading.{begins-long, readings}
+use Rattle.command.proofs.read.Statement.{statement}
+use Rattle.command.proofs.read.Tie as tie
+
+slice-aggregate-begins : tie.Need-slice-aggregate-begins
+slice-aggregate-begins c = search needs
+
+begins-requires : tie.Need-begins-requires
+begins-requires c κs = search needs
+
+returns : tie.Need-returns
+unfolding said commandOf
+returns c = search (readings, needs) depth 12
+
+slice-aggregate-begins-2 : tie.Need-slice-aggregate-begins-2
+slice-aggregate-begins-2 c = search needs
+
+begins-requires-2 : tie.Need-begins-requires-2
+begins-requires-2 c κs = search needs
+
+sub-redeclare-in : tie.Need-sub-redeclare-in
+sub-redeclare-in c = let h : 10 ≤ length (c .before .before .before .before .before .before .before .args .s .now) = begins-long (bytes "redeclare ") (c .before .before .before .before .before .before .before .args .s .now) _ (c .before .begins2 .ensures) (c .if2 .taken) in omega arith
+
+part-redeclare-in-start : tie.Need-part-redeclare-in-start
+part-redeclare-in-start c = let h : 10 ≤ length (c .before .before .before .before .before .before .before .args .s .now) = begins-long (bytes "redeclare ") (c .before .before .before .before .before .before .before .args .s .now) _ (c .before .begins2 .ensures) (c .if2 .taken) in omega arith
+
+part-redeclare-in-end : tie.Need-part-redeclare-in-end
+part-redeclare-in-end c = search needs
+
+redeclare-in-requires : tie.Need-redeclare-in-requires
+redeclare-in-requires c κs = search needs
+
+returns-2 : tie.Need-returns-2
+unfolding said commandOf
+returns-2 c = search (readings, needs) depth 12
+
+slice-aggregate-same : tie.Need-slice-aggregate-same
+slice-aggregate-same c = search needs
+
+same-requires : tie.Need-same-requires
+same-requires c κs = search needs
+
+returns-3 : tie.Need-returns-3
+unfolding said commandOf
+returns-3 c = search (readings, needs) depth 12
+
+slice-aggregate-same-2 : tie.Need-slice-aggregate-same-2
+slice-aggregate-same-2 c = search needs
+
+same-requires-2 : tie.Need-same-requires-2
+same-requires-2 c κs = search needs
+
+returns-4 : tie.Need-returns-4
+unfolding said commandOf
+returns-4 c = search (readings, needs) depth 12
+
+returns-5 : tie.Need-returns-5
+unfolding said commandOf
+returns-5 c = search (readings, needs) depth 12
+
+pub read-spec : {M : Type 1} → statement M
+read-spec =
+    tie.close
+    (tie.spec
+    slice-aggregate-begins
+    begins-requires
+    returns
+    slice-aggregate-begins-2
+    begins-requires-2
+    sub-redeclare-in
+    part-redeclare-in-start
+    part-redeclare-in-end
+    redeclare-in-requires
+    returns-2
+    slice-aggregate-same
+    same-requires
+    returns-3
+    slice-aggregate-same-2
+    same-requires-2
+    returns-4
+    returns-5)

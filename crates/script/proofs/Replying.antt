@@ -1,0 +1,106 @@
+-- Each way out of `answer` is the answer to its line.
+use Prim.Native.Nat.{ℕ, _+_, _-_, _≤_}
+use native.Mathlib.Omega.{arith}
+use mathlib.Core.List.{List, [], _∷_, _++_}
+use mathlib.Core.Path.{_≡_, refl, sym, ap, subst, _∙_}
+use lib.ListN.{length, take, drop, set}
+use Rattle.model.specs.Number.{decimal}
+use Rattle.model.specs.Machine.{Machine, Change, added, redeclared, takenBack}
+use Rattle.model.specs.WellFormed.{WellFormed}
+use Rattle.model.specs.Report.{line}
+use Rattle.model.specs.Session.{Call, Outcome, Answers}
+use Rattle.model.specs.Session as Session
+use Rattle.model.specs.Script.{commandOf, Makes, answer, unknown, Replies}
+use Rattle.model.specs.Script as Script
+use Rattle.model.proofs.Numbers.{added-most, redeclared-most, taken-back-most}
+use Rattle.table.specs.Lists.{lists, change}
+use Rattle.table.specs.Called.{Called}
+use Rattle.table.specs.Called as Called
+use Rattle.table.specs.declared.Table.{Table}
+use Rattle.table.specs.declared.Answered.{Answered}
+use Rattle.table.proofs.Follows.{call-follows}
+use Rattle.table.proofs.WellFormed.{answers-well-formed}
+use Rattle.report.specs.Writing.{Room, Wrote, Front}
+use Rattle.report.proofs.Fronts.{front-written, number-room}
+use Rattle.inference.specs.Printed.{Printed}
+use Rattle.command.specs.Said.{said}
+use Rattle.command.specs.declared.Command.{Command}
+use Rattle.command.specs.declared.Command.the-variants.{Add, Redeclare, TakeBack, Infer, Nothing}
+use Rattle.command.proofs.Reading.{rest-is, add-long}
+use Rattle.script.specs.Turns.{Replied}
+use Rattle.script.specs.declared.Turn.{Turn}
+
+-- A turn with the table and the length of the answer.
+abbrev turn : Table → ℕ → Turn
+turn table size = record { table = table; size = size }
+
+-- A command's call was answered, and the answer stands at the front of the buffer.
+replied : {m : Machine} {s buffer : List ℕ} (table : Table) (size : ℕ) {call : Call} {o : Outcome} → WellFormed m → Makes (commandOf s) call → Answers m call o (lists table) →
+    Front (answer call o) buffer size → Replied m s buffer (turn table size)
+replied {m} {s} {buffer} table size w makes a front =
+    record {
+      replies = subst (λ (text : List ℕ). Replies m s text (lists table)) (sym (front .bytes)) (Replies.calls makes a);
+      well-formed = answers-well-formed m w a;
+      fits = front .fits;
+    }
+
+pub add-starts : (s : List ℕ) (c : Command) → said c s ≡ commandOf s → c ≡ Add → 4 ≤ length s
+add-starts s c reads e = add-long s (ap (λ (x : Command). said x s) (sym e) ∙ reads)
+
+module _ (t : Table) (s buffer : List ℕ) (w : WellFormed (lists t)) (c : Command) (reads : said c s ≡ commandOf s) where
+  -- The line that was read is a command that makes the call.
+  makes-as : {call : Call} (c′ : Command) → c ≡ c′ → Makes (said c′ s) call → Makes (commandOf s) call
+  makes-as {call} c′ e makes = subst (λ (x : Script.Command). Makes x call) (ap (λ (x : Command). said x s) (sym e) ∙ reads) makes
+
+  -- The number of a call stands at the front of the buffer.
+  module _ (r : Answered) (size : ℕ) (front : Front (line (decimal (r .number) ∷ [])) buffer size) where
+    pub add-replied : c ≡ Add → change r ≡ added (lists t) (take (length s - 4) (drop 4 s)) → Replied (lists t) s buffer (turn (r .table) size)
+    unfolding said
+    add-replied e is =
+        replied (r .table) size w (makes-as Add e Makes.adds) (call-follows {t = t} {r = r} (Called.adds (is ∙ ap (added (lists t)) (rest-is 4 s)))) front
+
+    pub redeclare-replied : (p code : ℕ) → c ≡ Redeclare p code → change r ≡ redeclared (lists t) p code → Replied (lists t) s buffer (turn (r .table) size)
+    unfolding said
+    redeclare-replied p code e is = replied (r .table) size w (makes-as (Redeclare p code) e Makes.redeclares) (call-follows {t = t} {r = r} (Called.redeclares is)) front
+
+    pub take-back-replied : c ≡ TakeBack → change r ≡ takenBack (lists t) → Replied (lists t) s buffer (turn (r .table) size)
+    unfolding said
+    take-back-replied e is = replied (r .table) size w (makes-as TakeBack e Makes.takes-back) (call-follows {t = t} {r = r} (Called.takes-back is)) front
+
+  pub infer-replied : (before : List ℕ) (size : ℕ) → 6280 ≤ length before → c ≡ Infer → Printed (lists t) before buffer size → Replied (lists t) s buffer (turn t size)
+  unfolding said
+  infer-replied before size long e printed = replied t size w (makes-as Infer e (Makes.infers long)) (Session.infers (printed .infers)) (printed .front)
+
+  pub unknown-replied : (size : ℕ) → c ≡ Nothing → Front unknown buffer size → Replied (lists t) s buffer (turn t size)
+  unfolding said
+  unknown-replied size e front =
+      record {
+        replies = subst (λ (text : List ℕ). Replies (lists t) s text (lists t)) (sym (front .bytes)) (Replies.passes (sym reads ∙ ap (λ (x : Command). said x s) e));
+        well-formed = w;
+        fits = front .fits;
+      }
+
+-- No call returns a number above 12.
+module _ (t : Table) (r : Answered) where
+  pub add-small : (s : List ℕ) → change r ≡ added (lists t) s → r .number ≤ 12
+  add-small s is = subst (λ (c : Change). c .number ≤ 12) (sym is) (omega (arith, added-most (lists t) s))
+
+  pub redeclare-small : (p code : ℕ) → change r ≡ redeclared (lists t) p code → r .number ≤ 12
+  redeclare-small p code is = subst (λ (c : Change). c .number ≤ 12) (sym is) (redeclared-most (lists t) p code)
+
+  pub take-back-small : change r ≡ takenBack (lists t) → r .number ≤ 12
+  take-back-small is = subst (λ (c : Change). c .number ≤ 12) (sym is) (taken-back-most (lists t))
+
+pub small-room : (buffer : List ℕ) (n : ℕ) → n ≤ 12 → 6280 ≤ length buffer → Room buffer 0 (decimal n ++ (10 ∷ []))
+small-room buffer n h long = number-room buffer n (omega arith) long
+
+pub number-front : (buffer after : List ℕ) (n size : ℕ) → n ≤ 12 → 6280 ≤ length buffer → Wrote buffer 0 (decimal n ++ (10 ∷ [])) after size → Front (line (decimal n ∷ [])) after size
+unfolding line
+number-front buffer after n size h long wrote = front-written (decimal n ++ (10 ∷ [])) buffer after size (small-room buffer n h long) wrote
+
+-- A question mark and a line feed.
+pub unknown-front : (buffer : List ℕ) → 6280 ≤ length buffer → Front unknown (set (set buffer 0 63) 1 10) 2
+unfolding line
+unknown-front [] long = absurd (omega arith)
+unknown-front (a ∷ []) long = absurd (omega arith)
+unknown-front (a ∷ b ∷ rest) long = record { bytes = refl; fits = omega arith }

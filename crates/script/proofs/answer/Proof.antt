@@ -1,0 +1,127 @@
+-- Each command's answer stands at the front of the buffer.
+use native.Mathlib.Omega.{arith}
+use Rattle.script.proofs.Replying.{add-starts, add-small, redeclare-small, take-back-small, add-replied, redeclare-replied, take-back-replied, infer-replied, unknown-replied}
+use borrow.Author.Needs.{needs}
+use Rattle.script.proofs.answer.Statement.{statement}
+use Rattle.script.proofs.answer.Tie as tie
+
+read-requires : tie.Need-read-requires
+read-requires c κs = search needs
+
+enum-told : tie.Need-enum-told
+enum-told c = search needs
+
+sub-add : tie.Need-sub-add
+sub-add c = let h = add-starts (c .before .before .before .before .before .args .line .now) _ (c .before .before .read .ensures) (c .enum-told .given .1) in omega arith
+
+part-add-start : tie.Need-part-add-start
+part-add-start c = let h = add-starts (c .before .before .before .before .before .args .line .now) _ (c .before .before .read .ensures) (c .enum-told .given .1) in omega arith
+
+part-add-end : tie.Need-part-add-end
+part-add-end c = search needs
+
+add-requires : tie.Need-add-requires
+add-requires c κs = search needs
+
+write-number-requires : tie.Need-write-number-requires
+write-number-requires c κs = (search (add-small, needs), search needs)
+
+enum-known-p : tie.Need-enum-known-p
+enum-known-p c = search needs
+
+cast-redeclare : tie.Need-cast-redeclare
+cast-redeclare c = search needs
+
+cast-redeclare-2 : tie.Need-cast-redeclare-2
+cast-redeclare-2 c = search needs
+
+redeclare-requires : tie.Need-redeclare-requires
+redeclare-requires c κs = search needs
+
+write-number-requires-2 : tie.Need-write-number-requires-2
+write-number-requires-2 c κs = (search (redeclare-small, needs), search needs)
+
+enum-told-2 : tie.Need-enum-told-2
+enum-told-2 c = search needs
+
+take-back-requires : tie.Need-take-back-requires
+take-back-requires c κs = search needs
+
+write-number-requires-3 : tie.Need-write-number-requires-3
+write-number-requires-3 c κs = (search (take-back-small, needs), search needs)
+
+enum-told-3 : tie.Need-enum-told-3
+enum-told-3 c = search needs
+
+print-requires : tie.Need-print-requires
+print-requires c κs = search needs
+
+enum-told-4 : tie.Need-enum-told-4
+enum-told-4 c = search needs
+
+write-unknown-requires : tie.Need-write-unknown-requires
+write-unknown-requires c κs = search needs
+
+same-length : tie.Need-same-length
+same-length c = search needs
+
+returns : tie.Need-returns
+returns c = search (add-replied, needs)
+
+same-length-2 : tie.Need-same-length-2
+same-length-2 c = search needs
+
+returns-2 : tie.Need-returns-2
+returns-2 c = search (redeclare-replied, needs)
+
+same-length-3 : tie.Need-same-length-3
+same-length-3 c = search needs
+
+returns-3 : tie.Need-returns-3
+returns-3 c = search (take-back-replied, needs)
+
+same-length-4 : tie.Need-same-length-4
+same-length-4 c = search needs
+
+returns-4 : tie.Need-returns-4
+returns-4 c = search (infer-replied, needs)
+
+same-length-5 : tie.Need-same-length-5
+same-length-5 c = search needs
+
+returns-5 : tie.Need-returns-5
+returns-5 c = search (unknown-replied, needs)
+
+pub answer-spec : {M : Type 1} → statement M
+answer-spec =
+    tie.close
+    (tie.spec
+    read-requires
+    enum-told
+    sub-add
+    part-add-start
+    part-add-end
+    add-requires
+    write-number-requires
+    enum-known-p
+    cast-redeclare
+    cast-redeclare-2
+    redeclare-requires
+    write-number-requires-2
+    enum-told-2
+    take-back-requires
+    write-number-requires-3
+    enum-told-3
+    print-requires
+    enum-told-4
+    write-unknown-requires
+    same-length
+    returns
+    same-length-2
+    returns-2
+    same-length-3
+    returns-3
+    same-length-4
+    returns-4
+    same-length-5
+    returns-5)
