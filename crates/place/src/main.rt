@@ -1,12 +1,21 @@
-// `place`: reads the lines of a table on standard input, and prints the report, or the refusal.
+// `place`: reads the lines of a table on standard input, and prints the report, or the refusal. A table that it did not read whole has no answer.
 use libc::STDIN_FILENO;
 use libc::STDOUT_FILENO;
+use streams::Whole;
 
 fn main() {
-    // A text is decided by its first 385 lines, of at most 64 bytes and a line feed (`load-front`), so that no more of it is read.
-    let mut text = [0u8; 25025];
-    let read = io::read_full(STDIN_FILENO, &mut text);
-    let mut output = [0u8; 6280];
-    let written = placement::print(&text[..read], &mut output);
-    io::write_all(STDOUT_FILENO, &output[..written]);
+    let mut text = [0u8; placement::TEXT];
+    match streams::read_whole(STDIN_FILENO, &mut text) {
+        Whole::Bytes(length) => answer(&text[..length]),
+        Whole::Failed => os::fail(b"place: standard input"),
+    }
+}
+
+// Prints what a text comes to.
+fn answer(text: &[u8]) {
+    let mut output = [0u8; placement::PRINTED];
+    let length = placement::print(text, &mut output);
+    if !streams::write(STDOUT_FILENO, &output[..length]) {
+        os::fail(b"place: standard output");
+    }
 }

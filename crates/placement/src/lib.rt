@@ -1,7 +1,16 @@
-// A whole text in, a report or a refusal out: what the key loader links, and what the program prints.
+// A whole text in, a report or a refusal out, and a whole script in, all answers out: what the key loader links, and what the program prints.
+ghost use mathlib.Core.Path.{_≡_};
 ghost use Prim.Native.Nat.{_≤_};
 ghost use lib.ListN.{length, take};
+ghost use Rattle.model.specs.Script.{Responds};
 ghost use Rattle.model.specs.Text.{Prints, Returns};
+use script::Layer;
+
+// What stands in a text after this many bytes does not matter: 385 lines of 64 bytes and a line feed (`load-front`).
+pub const TEXT: usize = 25025;
+
+// The length of the longest text that `place` prints.
+pub const PRINTED: usize = inference::REPORT;
 
 // The loader's entry: 100,000 and the report's length with the report in the buffer; or, with the buffer as it was, 1,000 times a refusal's
 // number and its line or row.
@@ -12,7 +21,7 @@ pub extern "C" fn placement_report(text: &[u8], buffer: &mut [u8]) -> u32
     if buffer.len() < inference::REPORT {
         return 11000;
     }
-    let loaded = text::load(text);
+    let loaded = text::load(front(text));
     if loaded.number != 0 {
         return loaded.number as u32 * 1000 + loaded.line as u32;
     }
@@ -21,6 +30,24 @@ pub extern "C" fn placement_report(text: &[u8], buffer: &mut [u8]) -> u32
         return inferred.number as u32 * 1000 + inferred.row as u32;
     }
     100000 + inferred.size as u32
+}
+
+// The part of a text that decides.
+fn front(text: &[u8]) -> &[u8]
+    ensures { λ r. ⌜ now r ≡ take 25025 (now (text .entry)) ⌝ }
+{
+    if text.len() <= TEXT {
+        return text;
+    }
+    &text[..TEXT]
+}
+
+// The loader's entry for scripts: the length of all answers, which stand in the output where there is room for all of them.
+#[no_mangle]
+pub extern "C" fn placement_session(script: &[u8], output: &mut [u8]) -> usize
+    ensures { λ r. ⌜ Responds (now (script .entry)) (now (output .entry)) r (now (output .exit)) ⌝ }
+{
+    script::respond(Layer::ByValue, script, output)
 }
 
 // Writes what `place` prints for a text, and returns its length.
@@ -33,9 +60,5 @@ pub fn print(text: &[u8], buffer: &mut [u8]) -> usize
     if loaded.number != 0 {
         return report::write_pair(buffer, 0, b"X", loaded.number as usize, loaded.line);
     }
-    let inferred = inference::infer(loaded.table, buffer);
-    if inferred.number != 0 {
-        return report::write_pair(buffer, 0, b"NO", inferred.number as usize, inferred.row);
-    }
-    inferred.size
+    inference::print(loaded.table, buffer)
 }
