@@ -1,0 +1,54 @@
+-- Every list of calls has answers: the three calls that change the machine by their definitions, and infer by the contract of the code that is proved to return.
+use Prim.Native.Nat.{ℕ, _≤_, _<_}
+use native.Mathlib.Omega.{arith}
+use native.Mathlib.Decide.{decLt}
+use mathlib.Core.List.{List, [], _∷_, map}
+use mathlib.Core.Logic.{∥∥₁-prop, ∥∥₁-elim, ∥∥₁-map}
+use mathlib.Core.Path.{_≡_, refl, ap, subst}
+use lib.ListN.{length}
+use Rattle.model.specs.Machine.{Machine, freshMachine}
+use Rattle.model.specs.WellFormed.{WellFormed}
+use Rattle.model.specs.Strength.{six}
+use Rattle.model.specs.Inference.{Slot, Shape, Judged, not-closed, not-typable, typed}
+use Rattle.model.specs.Session.{Call, add, redeclare, take-back, infer, Outcome, Infers, short, refused, accepted, Answers, adds, redeclares, takes-back, infers, Session, done, next}
+use Rattle.table.proofs.WellFormed.{fresh-well-formed, answers-well-formed}
+use Rattle.inference.proofs.Corollaries.{cause-number}
+use Rattle.answered.specs.Judgement.{HasJudgement}
+use Rattle.answered.proofs.Existence.{has-judgement}
+use Rattle.answered.proofs.Literals.{Literals, fresh-literals, answers-literals}
+use Rattle.answered.proofs.Holding.{tableOf, lists-table, table-owned}
+
+-- Something is judged of each machine that the calls reach: of the table in which it stands.
+machine-judged : (m : Machine) → WellFormed m → Literals m → ∥ HasJudgement m ∥₁
+machine-judged m w literals =
+    subst (λ (m′ : Machine). ∥ HasJudgement m′ ∥₁) (lists-table m)
+    (has-judgement (tableOf m) (table-owned m w literals) (rw (lists-table m) w))
+
+-- It is the answer for a buffer that is long enough.
+long-answered : {m : Machine} {number k : ℕ} {word : Slot → ℕ} {shape : Slot → Shape} (buffer : List ℕ) → 6280 ≤ length buffer → Judged six m number k word shape → (o : Outcome) × Infers m buffer o
+long-answered buffer long (not-closed {word} {shape} never) = (_, refused {word = word} {shape = shape} long (not-closed never) (λ e. omega arith))
+long-answered buffer long (not-typable {word = word} {shape = shape} closed refusal) = (_, refused {word = word} {shape = shape} long (not-typable closed refusal) (λ e. omega (arith, cause-number (refusal .cause) .0)))
+long-answered buffer long (typed closed a) = (_, accepted long (typed closed a))
+
+infer-answered : {m : Machine} (buffer : List ℕ) → HasJudgement m → (o : Outcome) × Infers m buffer o
+infer-answered {m} buffer j = go (decLt (length buffer) 6280)
+  where
+    go : Dec (length buffer < 6280) → (o : Outcome) × Infers m buffer o
+    go (yes h) = (_, short h)
+    go (no h) = long-answered buffer (omega arith) (j .judged)
+
+call-answered : (m : Machine) → WellFormed m → Literals m → (call : Call) → ∥ ((o : Outcome) × (after : Machine) × Answers m call o after) ∥₁
+call-answered m w literals (add line) = ∣ (_, _, adds) ∣₁
+call-answered m w literals (redeclare p code) = ∣ (_, _, redeclares) ∣₁
+call-answered m w literals take-back = ∣ (_, _, takes-back) ∣₁
+call-answered m w literals (infer buffer) = ∥∥₁-map (machine-judged m w literals) (λ j. let o = infer-answered buffer j in (o .0, m, infers (o .1)))
+
+list-answered : (m : Machine) → WellFormed m → Literals m → (calls : List Call) → ∥ ((trace : List (Call × Outcome)) × (map (λ step. step .0) trace ≡ calls) × Session m trace) ∥₁
+list-answered m w literals [] = ∣ ([], refl, done) ∣₁
+list-answered m w literals (call ∷ calls) =
+    ∥∥₁-elim (call-answered m w literals call) ∥∥₁-prop (λ a.
+    ∥∥₁-map (list-answered (a .1) (answers-well-formed m w (a .2)) (answers-literals m literals (a .2)) calls) (λ s.
+    ((call, a .0) ∷ s .0, ap (λ (l : List Call). call ∷ l) (s .1), next (a .2) (s .2))))
+
+pub every-list-answered : (calls : List Call) → ∥ ((trace : List (Call × Outcome)) × (map (λ step. step .0) trace ≡ calls) × Session freshMachine trace) ∥₁
+every-list-answered = list-answered freshMachine fresh-well-formed fresh-literals

@@ -1,0 +1,6 @@
+pub mod Judgements
+pub mod Existence
+pub mod Entries
+pub mod Literals
+pub mod Holding
+pub mod Answered

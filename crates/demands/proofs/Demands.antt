@@ -1,0 +1,159 @@
+-- What is promised, on one page: the three demands as theorems. What their words mean stands in model/specs and in specs/ here;
+-- by demand 3 every list of calls that the code ran is a `Session`, so that demands 1 and 2 hold of it.
+use Prim.Native.Nat.{ℕ, _≤_, _<_}
+use mathlib.Core.Bool.{true}
+use mathlib.Core.List.{List, [], _∷_, _++_, map}
+use mathlib.Core.Path.{_≡_}
+use lib.ListN.{length, take, drop}
+use Rattle.model.specs.Lists.{contains}
+use Rattle.model.specs.Machine.{Machine, freshMachine}
+use Rattle.model.specs.Closed.{Closed}
+use Rattle.model.specs.Typing.{Typable}
+use Rattle.model.specs.Strength.{whole, six}
+use Rattle.model.specs.Inference.{Slot, Shape, Refusal, Accepted}
+use Rattle.model.specs.Report.{report}
+use Rattle.model.specs.Session.{Call, add, redeclare, take-back, infer, Outcome, returning, Infers, Answers, adds, redeclares, takes-back, Session}
+use Rattle.model.specs.Text.{linesOf, Prints, Returns}
+use Rattle.model.specs.Script.{commandOf, Makes, Replies, Conversation, largest, Responds}
+use Rattle.model.proofs.Answers.{session-same}
+use Rattle.model.proofs.LongLines.{reply-front}
+use Rattle.table.specs.Lists.{lists}
+use Rattle.table.specs.Called.{Called}
+use Rattle.table.specs.declared.Table.{Table}
+use Rattle.inference.specs.Ran.{Step, changes, Ran}
+use Rattle.inference.proofs.Follows.{session-follows}
+use Rattle.inference.proofs.Corollaries.{open-exactly, refused-untypable, untypable-refused, reported-greatest}
+use Rattle.answered.proofs.Answered.{every-list-answered as list-has-answers}
+use Rattle.text.proofs.Front.{prints-front, returns-front}
+use Rattle.text.proofs.Same.{prints-same, returns-same}
+use Rattle.starred.specs.Starred.{All}
+use Rattle.demands.specs.Refusals.{HasAnswer, RefusedExactly}
+use Rattle.demands.specs.Standing.{standing}
+use Rattle.demands.specs.Completion.{ReportsTyping}
+use Rattle.demands.specs.Replacements.{callsOf}
+use Rattle.demands.specs.Scripts.{OneSession, commandFor, Spelled, unspelledNumbers, scriptOf, answersOf, AllAlike}
+use Rattle.demands.proofs.Exactly.{refused-exactly}
+use Rattle.demands.proofs.Standing.{session-standing}
+use Rattle.demands.proofs.Completion.{reports-typing, answered-reports}
+use Rattle.demands.proofs.LeftOut.{unspelled-refused}
+use Rattle.demands.proofs.Scripts.{one-session, responds-same, spelled-makes, script-lines, script-alike, list-converses}
+
+-- Demand 1. "Refused are: .. Each has its number in document 01, and a refused call leaves the table and the lent bytes as it found them.
+-- Accepted is everything else".
+pub demand-1 : {m after : Machine} {call : Call} {o : Outcome} → Answers m call o after → RefusedExactly m call o after
+demand-1 = refused-exactly
+
+-- ".. for any bytes and any order of calls": every call of every list, on the machine that the accepted calls before it describe.
+pub demand-1-list : {m : Machine} {call : Call} {o : Outcome} (before rest : List (Call × Outcome)) →
+    Session m (before ++ ((call, o) ∷ rest)) → RefusedExactly (standing m before) call o (standing m (before ++ ((call, o) ∷ [])))
+demand-1-list before rest session = refused-exactly (session-standing before rest session)
+
+-- ".. and every call ends": the proof of each function says so; and the machine has an answer to every call that changes it.
+pub changes-answered : (m : Machine) → ((s : List ℕ) → HasAnswer m (add s)) × ((p code : ℕ) → HasAnswer m (redeclare p code)) × HasAnswer m take-back
+changes-answered m = (λ s. (_, _, adds), λ p code. (_, _, redeclares), (_, _, takes-back))
+
+-- So every list of calls has answers, infers among them: that infer's code returns on every table that the calls reach is taken from its proof.
+pub every-list-answered : (calls : List Call) → ∥ ((trace : List (Call × Outcome)) × (map (λ step. step .0) trace ≡ calls) × Session freshMachine trace) ∥₁
+every-list-answered = list-has-answers
+
+-- Demand 2. "The table is the one that the accepted calls describe, redeclare and take-back included": every call of every list is answered
+-- for the machine that the accepted calls before it describe, and leaves the one that they describe together with it.
+pub demand-2-table : {call : Call} {o : Outcome} (before rest : List (Call × Outcome)) → Session freshMachine (before ++ ((call, o) ∷ rest)) →
+    Answers (standing freshMachine before) call o (standing freshMachine (before ++ ((call, o) ∷ [])))
+demand-2-table = session-standing
+
+-- "An accepted inference reports schemes and shapes that complete to a typing".
+pub demand-2-report : {m : Machine} {buffer : List ℕ} {o : Outcome} → Infers m buffer o → o .number ≡ 0 → ReportsTyping m buffer o
+demand-2-report = reports-typing
+
+-- Both, of every call of every list.
+pub demand-2 : {call : Call} {o : Outcome} (before rest : List (Call × Outcome)) → Session freshMachine (before ++ ((call, o) ∷ rest)) →
+    Answers (standing freshMachine before) call o (standing freshMachine (before ++ ((call, o) ∷ [])))
+    × ((buffer : List ℕ) → call ≡ infer buffer → o .number ≡ 0 → ReportsTyping (standing freshMachine before) buffer o)
+demand-2 before rest session = let answer = session-standing before rest session in (answer, answered-reports answer)
+
+-- Demand 3. Every list of add, redeclare, take-back and infer calls from a fresh table, with any bytes, numbers and buffers, accepted or
+-- refused, each given the table that the one before it handed back: the whole list's answers are those of document 01.
+-- `Ran` holds of a list exactly what the contracts of the four functions say of its calls; `Table::fresh` ensures the premise.
+pub demand-3 : {t : Table} {trace : List (Call × Outcome)} → lists t ≡ freshMachine → Ran t trace → Session freshMachine trace
+demand-3 = session-follows
+
+-- A call through the layer that lends the table is a step of such a list: lent/proofs/Covered.antt has the premise from each function's contract.
+pub lent-covered : {before after : Table} {call : Call} {number : ℕ} → Called before call (record { table = after; number = number }) →
+    Step before call (returning number) after
+lent-covered called = changes called
+
+-- These answers are determined: the same calls have the same numbers, rows, lengths and bytes.
+pub answers-determined : {m : Machine} {trace trace′ : List (Call × Outcome)} →
+    Session m trace → Session m trace′ → map (λ step. step .0) trace ≡ map (λ step. step .0) trace′ → trace ≡ trace′
+answers-determined = session-same
+
+-- 10 exactly where the program is not closed, the buffer being long enough.
+pub refused-10-exactly : {m : Machine} {buffer : List ℕ} {o : Outcome} → Infers m buffer o → 6280 ≤ length buffer →
+    (o .number ≡ 10 → ¬ Closed m) × (¬ Closed m → o .number ≡ 10)
+refused-10-exactly = open-exactly
+
+-- 21 to 23 only where no typing exists, naming the least row; and always where none exists.
+pub refused-only-untypable : {m : Machine} {buffer : List ℕ} {o : Outcome} → Infers m buffer o → 21 ≤ o .number →
+    Refusal six m (o .number) (o .row) × ¬ Typable (whole six) m (length (m .terms))
+refused-only-untypable = refused-untypable
+
+pub untypable-always-refused : {m : Machine} {buffer : List ℕ} {o : Outcome} → Infers m buffer o → 6280 ≤ length buffer → Closed m →
+    ¬ Typable (whole six) m (length (m .terms)) → (21 ≤ o .number) × (o .number ≤ 23)
+untypable-always-refused = untypable-refused
+
+-- Otherwise the report: every typing is at or below its words (`greatest`), and one typing has all of them (`together`).
+pub report-is-greatest : {m : Machine} {buffer : List ℕ} {o : Outcome} → Infers m buffer o → o .number ≡ 0 →
+    (word : Slot → ℕ)
+    × (shape : Slot → Shape)
+    × (o .size ≡ length (report m word shape))
+    × (o .buffer ≡ report m word shape ++ drop (length (report m word shape)) buffer)
+    × Accepted six m word shape
+report-is-greatest = reported-greatest
+
+-- What the program prints and what the loader's entry returns are determined by their inputs; a text by its first 25,025 bytes.
+pub printed-determined : {text out out′ : List ℕ} → Prints text out → Prints text out′ → out ≡ out′
+printed-determined = prints-same
+
+pub printed-front : {text out : List ℕ} → Prints (take 25025 text) out → Prints text out
+printed-front = prints-front
+
+pub returned-front : {text buffer b : List ℕ} {n : ℕ} → Returns (take 25025 text) buffer n b → Returns text buffer n b
+returned-front = returns-front
+
+pub returned-determined : {text buffer b b′ : List ℕ} {n n′ : ℕ} → Returns text buffer n b → Returns text buffer n′ b′ → (n ≡ n′) × (b ≡ b′)
+returned-determined = returns-same
+
+-- The session. What the contract of `placement_session` says of a script: its calls are one list of demand 3, and all that is written is that
+-- list's answers. Every slice is shorter than the largest number.
+pub script-is-a-session : {script output after : List ℕ} {n : ℕ} → length output < largest → Responds script output n after → OneSession script output n after
+script-is-a-session = one-session
+
+-- What is returned and what is written are determined by the script and the output.
+pub session-determined : {script output after after′ : List ℕ} {n n′ : ℕ} → Responds script output n after → Responds script output n′ after′ → (n ≡ n′) × (after ≡ after′)
+session-determined = responds-same
+
+-- A line's first 69 bytes decide its answer; the program `session` keeps no more of a line.
+pub session-front : {m after : Machine} {s w : List ℕ} → Replies m (take 69 s) w after → Replies m s w after
+session-front = reply-front
+
+-- Every list of calls is a script. The line for a call makes that call, and the script of a list has these lines.
+pub call-is-spelled : (call : Call) → Spelled call → Makes (commandOf (commandFor call)) call
+call-is-spelled = spelled-makes
+
+pub lines-of-script : {calls : List Call} → All Spelled calls → linesOf (scriptOf calls) ≡ map commandFor calls
+lines-of-script = script-lines
+
+-- So every conversation with the script of a list makes these calls in turn, each the same but for the bytes of an infer's buffer.
+pub every-list-is-a-script : {calls : List Call} {answers : List ℕ} → All Spelled calls → (c : Conversation (scriptOf calls) answers) → AllAlike calls (callsOf (c .trace))
+every-list-is-a-script = script-alike
+
+-- And every list of demand 3, with these buffers and what it returned, is a conversation with its script.
+pub every-list-converses : {trace : List (Call × Outcome)} → All Spelled (callsOf trace) → Session freshMachine trace → Conversation (scriptOf (callsOf trace)) (answersOf trace)
+every-list-converses = list-converses
+
+-- Nothing is lost by the calls that no script can hold, as they are refused and leave the machine as it was: a line with a line feed has no form
+-- (1), a redeclare with a number above 4294967295 is refused with 5 or 12, an infer with a short buffer with 11.
+pub left-out-refused : (before rest : List (Call × Outcome)) (call : Call) (o : Outcome) → Session freshMachine (before ++ ((call, o) ∷ rest)) → ¬ Spelled call →
+    (contains (o .number) (unspelledNumbers call) ≡ true) × (standing freshMachine (before ++ ((call, o) ∷ [])) ≡ standing freshMachine before)
+left-out-refused = unspelled-refused

@@ -1,0 +1,15 @@
+pub mod Checks
+pub mod Members
+pub mod Refusals
+pub mod Standing
+pub mod Exactly
+pub mod Completion
+pub mod Decimal
+pub mod Loading
+pub mod ProgramA
+pub mod Without
+pub mod LineFeed
+pub mod LeftOut
+pub mod Scripts
+pub mod Demands
+pub mod Replacements

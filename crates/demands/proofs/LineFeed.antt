@@ -1,0 +1,213 @@
+-- A line that holds a line feed has none of the forms: no field that is read holds one.
+use Prim.Native.Nat.{ℕ, suc, _+_, _<_}
+use native.Mathlib.Omega.{arith}
+use native.Mathlib.Decide.{decLt}
+use mathlib.Core.Bool.{Bool, true, false, _||_, not, cond, or-assoc, or-false, false≢true}
+use mathlib.Core.List.{List, [], _∷_}
+use mathlib.Core.Path.{_≡_, refl, sym, ap, ap₂, subst, _∙_}
+use lib.Dec.{eqb, leb}
+use lib.ListN.{length, getD}
+use borrow.Author.Tests.{eqb-true, not-true}
+use Rattle.scheme.proofs.Every.{and-left, and-right}
+use Rattle.model.specs.Lists.{anyOf, allOf, contains, same, bytes}
+use Rattle.model.specs.Number.{numberOf}
+use Rattle.model.specs.Word.{qualifierWords, schemeWords, operationWords, placeIn, orElse, variableCode, variableOf, qualifierOf, schemeOf, operationOf}
+use Rattle.model.specs.Line.{onto, fields, field, number, literal, qualifier, scheme, operation, given, choose, exactly, intLine, anyLine, arrowLine, paramLine, lamLine, appLine, opLine, varLine, numLine, encLine, typeLine, leafLine, termLine, lineOf}
+use Rattle.model.specs.declared.Field.{Field}
+use Rattle.model.specs.declared.Field.the-variants.{Value, NoValue}
+use Rattle.model.specs.declared.Line.{Line}
+use Rattle.model.specs.declared.Line.the-variants.{NoForm}
+use Rattle.demands.proofs.Decimal.{number-digits}
+use Rattle.demands.proofs.Without.{digits-without}
+
+-- The bytes hold no line feed.
+abbrev Clean : List ℕ → Type 0
+Clean s = contains 10 s ≡ false
+
+-- What is read of a field: a number, a word, a qualifier.
+number-clean : (most v : ℕ) (f : List ℕ) → numberOf most f ≡ Value v → Clean f
+number-clean most v f e = digits-without 10 f refl (number-digits most v f e)
+
+same-bytes : (s t : List ℕ) → same s t ≡ true → s ≡ t
+same-bytes [] [] h = refl
+same-bytes [] (b ∷ bs) h = absurd (false≢true h)
+same-bytes (a ∷ as′) [] h = absurd (false≢true h)
+same-bytes (a ∷ as′) (b ∷ bs) h = ap₂ _∷_ (eqb-true a b (and-left (eqb a b) (same as′ bs) h)) (same-bytes as′ bs (and-right (eqb a b) (same as′ bs) h))
+
+word-clean : (f word : List ℕ) → Clean word → same f word ≡ true → Clean f
+word-clean f word clean h = ap (contains 10) (same-bytes f word h) ∙ clean
+
+place-clean : (c v : ℕ) (words : List (List ℕ)) (f : List ℕ) → allOf (λ word. not (contains 10 word)) words ≡ true → placeIn c words f ≡ Value v → Clean f
+place-clean c v [] f clean e = cc
+place-clean c v (word ∷ words) f clean e = by (same f word) refl (place-clean (c + 1) v words f (and-right (not (contains 10 word)) _ clean)) e
+  where
+    by : (t : Bool) → same f word ≡ t → (placeIn (c + 1) words f ≡ Value v → Clean f) → cond t (Value c) (placeIn (c + 1) words f) ≡ Value v → Clean f
+    by true h later e = word-clean f word (not-true (contains 10 word) (and-left (not (contains 10 word)) _ clean)) h
+    by false h later e = later e
+
+variable-clean : (v : ℕ) (f : List ℕ) → variableOf f ≡ Value v → Clean f
+variable-clean v [] e = refl
+variable-clean v (b ∷ bs) e = by (eqb b 103) refl e
+  where
+    digits : (k : Field) → numberOf 63 bs ≡ k → variableCode k ≡ Value v → Clean bs
+    digits (Value k) read e = number-clean 63 k bs read
+    digits NoValue read e = cc
+
+    by : (t : Bool) → eqb b 103 ≡ t → cond t (variableCode (numberOf 63 bs)) NoValue ≡ Value v → Clean (b ∷ bs)
+    by true h e = rw (eqb-true b 103 h) (digits (numberOf 63 bs) refl e)
+    by false h e = cc
+
+qualifier-clean : (v : ℕ) (f : List ℕ) → qualifierOf f ≡ Value v → Clean f
+unfolding qualifierOf
+qualifier-clean v f e = by (placeIn 0 qualifierWords f) refl e
+  where
+    by : (k : Field) → placeIn 0 qualifierWords f ≡ k → orElse k (variableOf f) ≡ Value v → Clean f
+    by (Value k) read e = place-clean 0 k qualifierWords f refl read
+    by NoValue read e = variable-clean v f e
+
+scheme-clean : (v : ℕ) (f : List ℕ) → schemeOf f ≡ Value v → Clean f
+unfolding schemeOf
+scheme-clean v f e = place-clean 1 v schemeWords f refl e
+
+operation-clean : (v : ℕ) (f : List ℕ) → operationOf f ≡ Value v → Clean f
+unfolding operationOf
+operation-clean v f e = place-clean 0 v operationWords f refl e
+
+-- A line feed of the line stands in one of its fields.
+feed-onto : (b : ℕ) (fs : List (List ℕ)) → anyOf (contains 10) (onto b fs) ≡ (eqb 10 b || anyOf (contains 10) fs)
+feed-onto b [] = or-false (eqb 10 b || false)
+feed-onto b (f ∷ fs) = or-assoc (eqb 10 b) (contains 10 f) (anyOf (contains 10) fs)
+
+feed-in-field : (s : List ℕ) → anyOf (contains 10) (fields s) ≡ contains 10 s
+feed-in-field [] = refl
+feed-in-field (b ∷ bs) = by (eqb b 44) refl (feed-in-field bs)
+  where
+    by : (t : Bool) → eqb b 44 ≡ t → anyOf (contains 10) (fields bs) ≡ contains 10 bs →
+        anyOf (contains 10) (cond t ([] ∷ fields bs) (onto b (fields bs))) ≡ (eqb 10 b || contains 10 bs)
+    by true h later = rw (eqb-true b 44 h) later
+    by false h later = feed-onto b (fields bs) ∙ ap (λ (t : Bool). eqb 10 b || t) later
+
+all-clean : (fs : List (List ℕ)) → ((k : ℕ) → k < length fs → Clean (getD fs k [])) → anyOf (contains 10) fs ≡ false
+all-clean [] each = refl
+all-clean (f ∷ fs) each = rw (each 0 (omega arith)) (all-clean fs (λ k h. each (suc k) (omega arith)))
+
+-- A line has no form unless each of its steps passes.
+given-none : (f : Field) (rest : ℕ → Line) → ((v : ℕ) → f ≡ Value v → rest v ≡ NoForm) → given f rest ≡ NoForm
+unfolding given
+given-none (Value v) rest none = none v refl
+given-none NoValue rest none = refl
+
+choose-none : (t : Bool) {a b : Line} → (t ≡ true → a ≡ NoForm) → b ≡ NoForm → choose t a b ≡ NoForm
+unfolding choose
+choose-none true none other = none refl
+choose-none false none other = other
+
+module _ (s : List ℕ) where
+  exactly-none : (n : ℕ) {line : Line} → (length (fields s) ≡ n → line ≡ NoForm) → exactly n s line ≡ NoForm
+  unfolding exactly
+  exactly-none n none = choose-none (eqb (length (fields s)) n) (λ e. none (eqb-true (length (fields s)) n e)) refl
+
+  -- A field that passes is clean.
+  module _ (k : ℕ) {rest : ℕ → Line} (none : Clean (field s k) → (v : ℕ) → rest v ≡ NoForm) where
+    number-none : given (number s k) rest ≡ NoForm
+    number-none = given-none (number s k) rest (λ v e. none (number-clean 65535 v (field s k) e) v)
+
+    literal-none : given (literal s k) rest ≡ NoForm
+    literal-none = given-none (literal s k) rest (λ v e. none (number-clean 4294967295 v (field s k) e) v)
+
+    qualifier-none : given (qualifier s k) rest ≡ NoForm
+    qualifier-none = given-none (qualifier s k) rest (λ v e. none (qualifier-clean v (field s k) e) v)
+
+    scheme-none : given (scheme s k) rest ≡ NoForm
+    scheme-none = given-none (scheme s k) rest (λ v e. none (scheme-clean v (field s k) e) v)
+
+    operation-none : given (operation s k) rest ≡ NoForm
+    operation-none = given-none (operation s k) rest (λ v e. none (operation-clean v (field s k) e) v)
+
+  -- The tag stands in field 0, the kind's word in field 2.
+  word-none : (k : ℕ) (word : List ℕ) {line other : Line} → Clean word → (Clean (field s k) → line ≡ NoForm) → other ≡ NoForm → choose (same (field s k) word) line other ≡ NoForm
+  word-none k word clean none = choose-none (same (field s k) word) (λ e. none (word-clean (field s k) word clean e))
+
+infixl 60 _then_
+-- The first fields of a line are clean.
+data CleanTo (s : List ℕ) : ℕ → Type 0 where
+  start : CleanTo s 0
+  _then_ : {k : ℕ} → CleanTo s k → Clean (field s k) → CleanTo s (suc k)
+
+clean-at : {s : List ℕ} {n : ℕ} → CleanTo s n → (k : ℕ) → k < n → Clean (field s k)
+clean-at start k h = absurd (omega arith)
+clean-at {s} (_then_ {k = n} front last) k h = by (decLt k n) (clean-at front k)
+  where
+    by : Dec (k < n) → (k < n → Clean (field s k)) → Clean (field s k)
+    by (yes below) earlier = earlier below
+    by (no past) earlier = let is-last : n ≡ k = omega arith in subst (λ (k : ℕ). Clean (field s k)) is-last last
+
+module _ (s : List ℕ) (feed : contains 10 s ≡ true) where
+  -- The line feed stands in a field that is read.
+  all-read : {n : ℕ} {line : Line} → length (fields s) ≡ n → CleanTo s n → line ≡ NoForm
+  all-read e clean = absurd (false≢true (sym (all-clean (fields s) (λ k h. clean-at clean k (omega arith))) ∙ feed-in-field s ∙ feed))
+
+  module _ (c₀ : Clean (field s 0)) where
+    param-none : paramLine s ≡ NoForm
+    unfolding paramLine
+    param-none = exactly-none s 4 λ n. number-none s 1 λ c₁ p. qualifier-none s 2 λ c₂ q. number-none s 3 λ c₃ t. all-read n (start then c₀ then c₁ then c₂ then c₃)
+
+    module _ (c₂ : Clean (field s 2)) where
+      int-none : intLine s ≡ NoForm
+      unfolding intLine
+      int-none = exactly-none s 3 λ n. number-none s 1 λ c₁ i. all-read n (start then c₀ then c₁ then c₂)
+
+      any-none : anyLine s ≡ NoForm
+      unfolding anyLine
+      any-none = exactly-none s 3 λ n. number-none s 1 λ c₁ i. all-read n (start then c₀ then c₁ then c₂)
+
+      arrow-none : arrowLine s ≡ NoForm
+      unfolding arrowLine
+      arrow-none =
+          exactly-none s 7 λ n. number-none s 1 λ c₁ i. qualifier-none s 3 λ c₃ q. number-none s 4 λ c₄ t. qualifier-none s 5 λ c₅ q′. number-none s 6 λ c₆ t′.
+          all-read n (start then c₀ then c₁ then c₂ then c₃ then c₄ then c₅ then c₆)
+
+      lam-none : lamLine s ≡ NoForm
+      unfolding lamLine
+      lam-none = exactly-none s 5 λ n. number-none s 1 λ c₁ i. number-none s 3 λ c₃ p. number-none s 4 λ c₄ b. all-read n (start then c₀ then c₁ then c₂ then c₃ then c₄)
+
+      app-none : appLine s ≡ NoForm
+      unfolding appLine
+      app-none = exactly-none s 5 λ n. number-none s 1 λ c₁ i. number-none s 3 λ c₃ f. number-none s 4 λ c₄ a. all-read n (start then c₀ then c₁ then c₂ then c₃ then c₄)
+
+      op-none : opLine s ≡ NoForm
+      unfolding opLine
+      op-none =
+          exactly-none s 6 λ n. number-none s 1 λ c₁ i. operation-none s 3 λ c₃ o. number-none s 4 λ c₄ l. number-none s 5 λ c₅ r.
+          all-read n (start then c₀ then c₁ then c₂ then c₃ then c₄ then c₅)
+
+      var-none : varLine s ≡ NoForm
+      unfolding varLine
+      var-none = exactly-none s 4 λ n. number-none s 1 λ c₁ i. number-none s 3 λ c₃ p. all-read n (start then c₀ then c₁ then c₂ then c₃)
+
+      num-none : numLine s ≡ NoForm
+      unfolding numLine
+      num-none = exactly-none s 4 λ n. number-none s 1 λ c₁ i. literal-none s 3 λ c₃ v. all-read n (start then c₀ then c₁ then c₂ then c₃)
+
+      enc-none : encLine s ≡ NoForm
+      unfolding encLine
+      enc-none = exactly-none s 5 λ n. number-none s 1 λ c₁ i. scheme-none s 3 λ c₃ e. literal-none s 4 λ c₄ v. all-read n (start then c₀ then c₁ then c₂ then c₃ then c₄)
+
+    type-none : typeLine s ≡ NoForm
+    unfolding typeLine
+    type-none = word-none s 2 (bytes "INT") refl int-none (word-none s 2 (bytes "ANY") refl any-none (word-none s 2 (bytes "ARROW") refl arrow-none refl))
+
+    leaf-none : leafLine s ≡ NoForm
+    unfolding leafLine
+    leaf-none = word-none s 2 (bytes "VAR") refl var-none (word-none s 2 (bytes "NUM") refl num-none (word-none s 2 (bytes "ENC") refl enc-none refl))
+
+    term-none : termLine s ≡ NoForm
+    unfolding termLine
+    term-none = word-none s 2 (bytes "LAM") refl lam-none (word-none s 2 (bytes "APP") refl app-none (word-none s 2 (bytes "OP") refl op-none leaf-none))
+
+  pub feed-no-form : lineOf s ≡ NoForm
+  unfolding lineOf
+  feed-no-form =
+      choose-none (leb (length s) 64)
+      (λ short. word-none s 0 (bytes "T") refl type-none (word-none s 0 (bytes "P") refl param-none (word-none s 0 (bytes "E") refl term-none refl)))
+      refl

@@ -1,0 +1,35 @@
+-- Reports that complete to a typing.
+-- Document 01, "The report" and "Before a delivery is taken".
+use Prim.Native.Nat.{ℕ}
+use mathlib.Core.List.{List, _++_}
+use mathlib.Core.Path.{_≡_}
+use lib.ListN.{length, drop}
+use Rattle.scheme.specs.Qualifier.{Qualifier}
+use Rattle.model.specs.Machine.{Machine}
+use Rattle.model.specs.Typing.{Ty, Assignment}
+use Rattle.model.specs.Strength.{six}
+use Rattle.model.specs.Inference.{Slot, Listed, qualifierOf, typeOf, IsInt, IsArrow, Shape, Types}
+use Rattle.model.specs.Report.{report}
+use Rattle.model.specs.Session.{Outcome}
+
+-- A type of the shape, "with ANY taken as INT".
+abbrev pub HasShape : Shape → Ty Qualifier → Type 0
+HasShape Shape.int τ = IsInt τ
+HasShape Shape.arrow τ = IsArrow τ
+HasShape Shape.any τ = IsInt τ
+
+-- "schemes and shapes that complete to a typing": some one typing has them all.
+pub record Completes (m : Machine) (word : Slot → ℕ) (shape : Slot → Shape) : Type 0 where
+  pub typing : Assignment Qualifier
+  pub types : Types six m typing
+  pub has-words : (x : Slot) → Listed six m x → qualifierOf typing x ≡ six .word (word x)
+  pub has-shapes : (x : Slot) → Listed six m x → HasShape (shape x) (typeOf typing x)
+
+-- The bytes of the outcome are the report of such schemes and shapes, and beyond it those of the buffer.
+abbrev pub ReportsTyping : Machine → List ℕ → Outcome → Type 0
+ReportsTyping m buffer o =
+    (word : Slot → ℕ)
+    × (shape : Slot → Shape)
+    × (o .size ≡ length (report m word shape))
+    × (o .buffer ≡ report m word shape ++ drop (length (report m word shape)) buffer)
+    × Completes m word shape

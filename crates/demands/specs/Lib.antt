@@ -1,0 +1,5 @@
+pub mod Refusals
+pub mod Standing
+pub mod Completion
+pub mod Replacements
+pub mod Scripts
