@@ -3,9 +3,6 @@ use Prim.Native.Nat.{_-_, _≤_}
 use borrow.Author.Needs.{needs}
 use Rattle.speed_export.proofs.infer_times.Statement.{statement}
 use Rattle.speed_export.proofs.infer_times.Tie as tie
-use Rattle.speed_export.proofs.infer_times.Reads as reads
-use Rattle.speed_export.proofs.infer_times.Lts as lts
-use Rattle.speed_export.proofs.infer_once.Reads as infer-once-reads
 
 abbrev Inv-loop : tie.InvT-loop
 Inv-loop table times i₀ i = i ≤ times
@@ -13,27 +10,21 @@ Inv-loop table times i₀ i = i ≤ times
 abbrev μ-loop : tie.MeasureT-loop
 μ-loop table times i₀ i = times - i
 
--- src/lib.rt:33:5
 loop-holds : tie.Need-loop-holds Inv-loop μ-loop
 loop-holds c = search needs
 
--- src/lib.rt:34:9
 infer-once-requires : tie.Need-infer-once-requires Inv-loop μ-loop
 infer-once-requires c κs = search needs
 
--- src/lib.rt:35:9
 add-i : tie.Need-add-i Inv-loop μ-loop
 add-i c = search needs
 
--- src/lib.rt:33:5
 loop-less : tie.Need-loop-less Inv-loop μ-loop
 loop-less c = search needs
 
--- src/lib.rt:33:5
 loop-again : tie.Need-loop-again Inv-loop μ-loop
 loop-again c = search needs
 
--- src/lib.rt:29:1
 returns : tie.Need-returns Inv-loop μ-loop
 returns c = search needs
 

@@ -3,10 +3,6 @@ use Prim.Native.Nat.{_-_, _≤_}
 use borrow.Author.Needs.{needs}
 use Rattle.speed_export.proofs.solve_times.Statement.{statement}
 use Rattle.speed_export.proofs.solve_times.Tie as tie
-use Rattle.speed_export.proofs.solve_times.Reads as reads
-use Rattle.speed_export.proofs.solve_times.Lts as lts
-use Rattle.speed_export.proofs.solve_once.Reads as solve-once-reads
-use Rattle.table.proofs.Table.term_rows.Reads as term-rows-reads
 
 abbrev Inv-loop : tie.InvT-loop
 Inv-loop table times i₀ i = i ≤ times
@@ -14,35 +10,27 @@ Inv-loop table times i₀ i = i ≤ times
 abbrev μ-loop : tie.MeasureT-loop
 μ-loop table times i₀ i = times - i
 
--- src/lib.rt:43:8
 term-rows-requires : tie.Need-term-rows-requires Inv-loop μ-loop
 term-rows-requires c κs = search needs
 
--- src/lib.rt:44:9
 returns : tie.Need-returns Inv-loop μ-loop
 returns c = search needs
 
--- src/lib.rt:47:5
 loop-holds : tie.Need-loop-holds Inv-loop μ-loop
 loop-holds c = search needs
 
--- src/lib.rt:48:9
 solve-once-requires : tie.Need-solve-once-requires Inv-loop μ-loop
 solve-once-requires c κs = search needs
 
--- src/lib.rt:49:9
 add-i : tie.Need-add-i Inv-loop μ-loop
 add-i c = search needs
 
--- src/lib.rt:47:5
 loop-less : tie.Need-loop-less Inv-loop μ-loop
 loop-less c = search needs
 
--- src/lib.rt:47:5
 loop-again : tie.Need-loop-again Inv-loop μ-loop
 loop-again c = search needs
 
--- src/lib.rt:40:1
 returns-2 : tie.Need-returns-2 Inv-loop μ-loop
 returns-2 c = search needs
 
