@@ -49,6 +49,18 @@ impl Call {
     }
 }
 
+impl From<Call> for generate::Call {
+    fn from(call: Call) -> generate::Call {
+        match call {
+            Call::Add(line) => generate::Call::Add(line),
+            Call::Redeclare(parameter, code) => {
+                generate::Call::Redeclare(parameter.into(), code.into())
+            }
+            Call::TakeBack => generate::Call::TakeBack,
+        }
+    }
+}
+
 /// Calls that build a program of up to so many rows, with other calls between.
 pub fn program_calls(random: &mut Random, rows: usize) -> Vec<Call> {
     let calls = generate::call_list(random, rows);
@@ -57,7 +69,11 @@ pub fn program_calls(random: &mut Random, rows: usize) -> Vec<Call> {
 
 /// So many calls that fit the table before them, or nearly fit it; a long list fills the table.
 pub fn fitting_calls(random: &mut Random, count: usize) -> Vec<Call> {
-    let mut table = Table::fresh();
+    fitting_calls_on(random, Table::fresh(), count)
+}
+
+/// So many calls from this table on that fit the table before them, or nearly fit it.
+pub fn fitting_calls_on(random: &mut Random, mut table: Table, count: usize) -> Vec<Call> {
     let next = |_| {
         let call = fitting_call(random, &table);
         call.apply(&mut table);

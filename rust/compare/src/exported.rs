@@ -27,6 +27,20 @@ mod raw {
             report: *mut u8,
             report_length: usize,
         ) -> u32;
+
+        pub fn placement_session(
+            script: *const u8,
+            script_length: usize,
+            answers: *mut u8,
+            answers_length: usize,
+        ) -> usize;
+
+        pub fn session_lent(
+            script: *const u8,
+            script_length: usize,
+            answers: *mut u8,
+            answers_length: usize,
+        ) -> usize;
     }
 }
 
@@ -60,4 +74,20 @@ pub fn run_calls(script: &[u8], numbers: &mut [u16], entries: &mut [u8]) -> u64 
 pub fn placement_report(text: &[u8], report: &mut [u8]) -> u32 {
     // SAFETY: both slices are valid for their lengths during the call, and only `report` is written.
     unsafe { raw::placement_report(text.as_ptr(), text.len(), report.as_mut_ptr(), report.len()) }
+}
+
+/// Runs the commands of a script on a table of its own; writes all answers where there is room for all.
+///
+/// It returns the length of all answers.
+pub fn placement_session(script: &[u8], answers: &mut [u8]) -> usize {
+    let (buffer, length) = (answers.as_mut_ptr(), answers.len());
+    // SAFETY: both slices are valid for their lengths during the call, and only `answers` is written.
+    unsafe { raw::placement_session(script.as_ptr(), script.len(), buffer, length) }
+}
+
+/// The same through the layer that lends the table.
+pub fn session_lent(script: &[u8], answers: &mut [u8]) -> usize {
+    let (buffer, length) = (answers.as_mut_ptr(), answers.len());
+    // SAFETY: both slices are valid for their lengths during the call, and only `answers` is written.
+    unsafe { raw::session_lent(script.as_ptr(), script.len(), buffer, length) }
 }

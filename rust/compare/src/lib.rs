@@ -4,11 +4,16 @@
 
 mod exported;
 
+pub mod buffers;
 pub mod calls;
+pub mod counts;
 pub mod numbers;
+pub mod pieces;
+pub mod programs;
 pub mod script;
+pub mod sessions;
 pub mod slowest;
 pub mod texts;
 pub mod well_formed;
 
-pub use exported::{placement_report, read_line, run_calls};
+pub use exported::{placement_report, placement_session, read_line, run_calls, session_lent};

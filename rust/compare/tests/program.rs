@@ -1,57 +1,19 @@
 //! The program `place` and the reference print the same bytes for the same standard input.
 
+use compare::pieces::{pieces, printed, WHOLE};
+use compare::programs::program;
 use compare::texts::{large_texts, random_text, Kind};
 use second::generate::{deep, text_of_lines, Random};
 use second::place;
 use second::to_try;
 use std::collections::BTreeMap;
-use std::env;
-use std::io::{ErrorKind, Write};
-use std::path::{Path, PathBuf};
-use std::process::{ChildStdin, Command, Stdio};
-use std::thread;
 
 /// How many generated texts are compared.
 const TEXTS: usize = 600;
 
-/// How many bytes are written to the program at once, where that does not matter.
-const WHOLE: usize = usize::MAX;
-
-/// Where the program is: in target/bin of the repository, or where PLACEMENT_PROGRAM says.
-fn program() -> PathBuf {
-    let built = Path::new(env!("CARGO_MANIFEST_DIR")).join("../../target/bin/place");
-    let program = env::var_os("PLACEMENT_PROGRAM").map_or(built, PathBuf::from);
-    assert!(program.is_file(), "{} is missing: run `rt check place` first", program.display());
-    program
-}
-
-/// What the program prints when a text comes on its standard input in pieces of so many bytes.
-fn printed(text: &[u8], piece: usize) -> Vec<u8> {
-    let mut command = Command::new(program());
-    let mut child = command.stdin(Stdio::piped()).stdout(Stdio::piped()).spawn().unwrap();
-    let input = child.stdin.take().unwrap();
-    let output = thread::scope(|scope| {
-        // The program may print before it has read all, so neither may wait for the other.
-        scope.spawn(|| write(input, text, piece));
-        child.wait_with_output().unwrap()
-    });
-    assert!(output.status.code().is_some(), "place ended with {}", output.status);
-    output.stdout
-}
-
-/// Writes a text in pieces, until all is written or the program reads no more.
-fn write(mut input: ChildStdin, text: &[u8], piece: usize) {
-    for part in text.chunks(piece) {
-        match input.write_all(part) {
-            Err(error) if error.kind() == ErrorKind::BrokenPipe => return,
-            result => result.unwrap(),
-        }
-    }
-}
-
 /// Asserts that the program prints these bytes for a text.
 fn assert_prints(about: &str, text: &[u8], piece: usize, expected: &[u8]) {
-    let printed = printed(text, piece).escape_ascii().to_string();
+    let printed = printed(&program("place"), &pieces(text, piece)).escape_ascii().to_string();
     assert_eq!(printed, expected.escape_ascii().to_string(), "for {about}");
 }
 

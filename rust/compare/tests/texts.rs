@@ -1,6 +1,8 @@
 //! The C entry and the reference solver give the same number and the same bytes for the same text.
 
+use compare::buffers::{assert_same, filled_buffer, inner, random_buffer, shown, MARGIN};
 use compare::calls::filling_lines;
+use compare::counts::Counts;
 use compare::placement_report;
 use compare::slowest::Slowest;
 use compare::texts::{closed_text, large_texts, random_text, Kind};
@@ -12,8 +14,6 @@ use second::report::LONGEST_REPORT;
 use second::rows::TypeRow;
 use second::to_try;
 use second::Table;
-use std::collections::BTreeMap;
-use std::fmt::Debug;
 use std::time::Instant;
 
 /// How many texts of all kinds are compared.
@@ -22,9 +22,6 @@ const TEXTS: usize = 55_000;
 /// How many closed tables are compared, and how many of each special kind.
 const TABLES: usize = 20_000;
 const SPECIAL_TABLES: usize = 2_000;
-
-/// How many bytes before and behind a buffer are looked at too.
-const MARGIN: usize = 32;
 
 /// The answers to closed programs: accepted, or the number of a refusal.
 const VERDICTS: [u32; 4] = [0, 21, 22, 23];
@@ -67,33 +64,6 @@ impl Room {
     }
 }
 
-/// How often each thing occurred.
-struct Counts<T>(BTreeMap<T, usize>);
-
-impl<T> Default for Counts<T> {
-    fn default() -> Counts<T> {
-        Counts(BTreeMap::new())
-    }
-}
-
-impl<T: Ord + Debug> Counts<T> {
-    fn add(&mut self, thing: T) {
-        *self.0.entry(thing).or_insert(0) += 1;
-    }
-
-    fn of(&self, thing: &T) -> usize {
-        self.0.get(thing).copied().unwrap_or(0)
-    }
-
-    /// Asserts that each of these things occurred so often.
-    fn assert_each(&self, things: impl IntoIterator<Item = T>, fewest: usize) {
-        for thing in things {
-            let count = self.of(&thing);
-            assert!(count >= fewest, "{thing:?} occurred {count} times only, in {:?}", self.0);
-        }
-    }
-}
-
 /// What occurred in many comparisons.
 #[derive(Default)]
 struct Tally {
@@ -112,23 +82,14 @@ impl Tally {
     /// Compares the C entry with the reference on a text and a buffer with random bytes; returns the answer.
     fn compare(&mut self, random: &mut Random, about: &str, text: &[u8], room: Room) -> u32 {
         let length = room.length(random);
-        let mut expected = random_bytes(random, length + 2 * MARGIN);
+        let mut expected = random_buffer(random, length);
         let mut found = expected.clone();
         let number = entry(text, inner(&mut expected));
         let start = Instant::now();
         let returned = placement_report(text, inner(&mut found));
         let time = start.elapsed();
         assert_eq!(returned, number, "for {about}, {}", shown(text));
-        let different = (0..found.len()).find(|&position| found[position] != expected[position]);
-        if let Some(position) = different {
-            panic!(
-                "byte {} of a buffer of {length} is {} and not {} for {about}, {}",
-                position as isize - MARGIN as isize,
-                found[position],
-                expected[position],
-                shown(text)
-            );
-        }
+        assert_same(&found, &expected, || format!("{about}, {}", shown(text)));
         self.slowest.take(text, inner(&mut found), about, time);
         self.rooms.add(room);
         self.count(number, inner(&mut expected));
@@ -171,12 +132,6 @@ impl Tally {
     }
 }
 
-/// The bytes between the margins, which are lent as a report buffer.
-fn inner(bytes: &mut [u8]) -> &mut [u8] {
-    let end = bytes.len() - MARGIN;
-    &mut bytes[MARGIN..end]
-}
-
 /// The lines of a report after the first, without their own numbers.
 fn slots(report: &[u8]) -> impl Iterator<Item = String> {
     let text = String::from_utf8(report.to_vec()).unwrap();
@@ -186,19 +141,6 @@ fn slots(report: &[u8]) -> impl Iterator<Item = String> {
         fields.remove(1);
         fields.join(",")
     })
-}
-
-/// A text in a message, up to a length that no accepted text has.
-fn shown(text: &[u8]) -> String {
-    text[..text.len().min(15_000)].escape_ascii().to_string()
-}
-
-/// So many bytes of random values.
-fn random_bytes(random: &mut Random, count: usize) -> Vec<u8> {
-    let mut bytes: Vec<u8> =
-        (0..count.div_ceil(8)).flat_map(|_| random.number().to_le_bytes()).collect();
-    bytes.truncate(count);
-    bytes
 }
 
 /// The table that a text fills; each of its lines must be accepted.
@@ -213,7 +155,7 @@ fn table(text: &[u8]) -> Table {
 /// Asserts what the C entry returns and writes with a buffer of this length, whatever stands there before.
 fn assert_answer(about: &str, text: &[u8], length: usize, number: u32, report: &[u8]) {
     for byte in [0, b'\n', 0xA5] {
-        let mut bytes = vec![byte; length + 2 * MARGIN];
+        let mut bytes = filled_buffer(byte, length);
         assert_eq!(placement_report(text, inner(&mut bytes)), number, "for {about}");
         let written = String::from_utf8_lossy(&inner(&mut bytes)[..report.len()]);
         assert_eq!(written, String::from_utf8_lossy(report), "for {about}");

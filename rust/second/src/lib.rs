@@ -13,6 +13,7 @@ pub mod place;
 pub mod qualifier;
 pub mod report;
 pub mod rows;
+pub mod session;
 pub mod solution;
 pub mod table;
 pub mod to_try;
@@ -20,4 +21,5 @@ pub mod typing;
 
 pub use place::{entry, place};
 pub use rows::Entry;
+pub use session::session;
 pub use table::{Answer, Table};

@@ -82,7 +82,7 @@ fn small(field: &[u8]) -> Option<u16> {
 }
 
 /// Reads a decimal number from 0 to 4294967295 without leading zeros.
-fn number(field: &[u8]) -> Option<u32> {
+pub fn number(field: &[u8]) -> Option<u32> {
     if field.is_empty() || (field.len() > 1 && field[0] == b'0') {
         return None;
     }

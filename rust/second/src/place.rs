@@ -9,6 +9,11 @@ pub fn place(text: &[u8]) -> Vec<u8> {
         Ok(table) => table,
         Err((number, line)) => return format!("X,{number},{line}\n").into_bytes(),
     };
+    inferred(&table)
+}
+
+/// What is printed of an inference: the report, or the line of its refusal.
+pub fn inferred(table: &Table) -> Vec<u8> {
     let mut report = vec![0; LONGEST_REPORT];
     let Answer { number, row, length } = table.infer(&mut report);
     if number != 0 {

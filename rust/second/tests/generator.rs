@@ -2,10 +2,10 @@
 
 use second::generate::{
     any_bytes, call_list, chain, changed_line, closed_program, damaged_line, damaged_text,
-    doubling, opened, text_of_table, Call, Damage, Opening, Program, Random,
+    doubling, opened, text_of_table, what_if_list, Call, Damage, Opening, Program, Random,
 };
 use second::line::read;
-use second::place::lines;
+use second::place::{inferred, lines};
 use second::rows::TypeRow;
 use second::typing::{judge, Shape};
 use second::{entry, place, Answer, Table};
@@ -310,4 +310,29 @@ fn random_calls_meet_every_number() {
     for number in [0, 1, 2, 4, 5, 6, 7, 8, 10, 11, 12, 21, 22, 23] {
         assert!(counts.contains_key(&number), "{number} does not occur: {counts:?}");
     }
+}
+
+#[test]
+fn questions_are_accepted_and_often_change_the_answer() {
+    let mut random = Random::seeded(31);
+    let (mut infers, mut changed) = (0, 0);
+    for _ in 0..400 {
+        let rows = random.between(1, 60);
+        let mut table = Table::fresh();
+        let mut before = None;
+        for call in what_if_list(&mut random, rows, 5) {
+            let number = make(&mut table, &call);
+            match call {
+                Call::Infer(..) => {
+                    let answer = inferred(&table);
+                    infers += 1;
+                    changed += usize::from(before.is_some_and(|before| before != answer));
+                    before = Some(answer);
+                }
+                _ => assert_eq!(number, 0, "for {call:?}"),
+            }
+        }
+        assert!(table.closed());
+    }
+    assert!(infers >= 2_400 && changed > infers / 3, "{changed} of {infers} were changed only");
 }

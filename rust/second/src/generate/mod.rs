@@ -10,6 +10,7 @@ mod program;
 mod random;
 mod text;
 mod text_damage;
+mod what_if;
 
 pub mod deep;
 
@@ -21,3 +22,4 @@ pub use program::{closed_program, Program};
 pub use random::Random;
 pub use text::{text_of_lines, text_of_table};
 pub use text_damage::{damaged_text, Damage};
+pub use what_if::what_if_list;

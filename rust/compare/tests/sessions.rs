@@ -1,0 +1,409 @@
+//! The entry for scripts, and the same through the layer that lends the table, answer as the reference does.
+
+use compare::buffers::{
+    assert_bytes, assert_same, filled_buffer, inner, random_buffer, shown, MARGIN,
+};
+use compare::counts::Counts;
+use compare::sessions::{adding, random_script, Kind};
+use compare::{placement_session, session_lent};
+use second::generate::{deep, text_of_lines, Random};
+use second::place::lines;
+use second::session::{answer, session, written, Command};
+use second::to_try;
+use second::Table;
+use std::fs;
+use std::path::Path;
+
+/// How many generated scripts are compared.
+const SCRIPTS: usize = 24_000;
+
+/// The commands with their numbers that occur often in generated scripts, and those that seldom do.
+const OFTEN: [&str; 17] = [
+    "add 0", "add 1", "add 2", "add 3", "add 4", "add 5", "add 6", "add 7", "redeclare 0",
+    "redeclare 5", "take-back 0", "infer 0", "infer 10", "infer 21", "infer 22", "infer 23", "? 0",
+];
+const SELDOM: [&str; 3] = ["add 8", "redeclare 12", "take-back 9"];
+
+/// A function that answers scripts: the script and a buffer in, the length of all answers out.
+type Entry = fn(&[u8], &mut [u8]) -> usize;
+
+/// The functions that are compared with the reference.
+const ENTRIES: [(&str, Entry); 2] =
+    [("placement_session", placement_session), ("session_lent", session_lent)];
+
+/// How long a buffer for answers is.
+#[derive(Clone, Copy, Debug, PartialEq, Eq, PartialOrd, Ord)]
+enum Room {
+    Zero,
+    Shorter,
+    OneTooShort,
+    Exact,
+    Longer,
+}
+
+impl Room {
+    /// All kinds of length.
+    const ALL: [Room; 5] =
+        [Room::Zero, Room::Shorter, Room::OneTooShort, Room::Exact, Room::Longer];
+
+    /// A kind of length, mostly one that is long enough.
+    fn random(random: &mut Random) -> Room {
+        match random.below(4) {
+            0 => Room::ALL[random.below(Room::ALL.len())],
+            1 => Room::Longer,
+            _ => Room::Exact,
+        }
+    }
+
+    /// A length of this kind for answers of so many bytes, of which there are some.
+    fn length(self, random: &mut Random, answers: usize) -> usize {
+        match self {
+            Room::Zero => 0,
+            Room::Shorter => random.below(answers),
+            Room::OneTooShort => answers - 1,
+            Room::Exact => answers,
+            Room::Longer => random.between(answers + 1, answers + 100),
+        }
+    }
+}
+
+/// Asserts that both functions answer a script with these bytes, with a buffer of this length.
+fn assert_written(random: &mut Random, script: &[u8], answers: &[u8], length: usize) {
+    for (name, entry) in ENTRIES {
+        let mut expected = random_buffer(random, length);
+        let mut found = expected.clone();
+        written(answers, inner(&mut expected));
+        let returned = entry(script, inner(&mut found));
+        assert_eq!(returned, answers.len(), "for {name}, {}", shown(script));
+        assert_same(&found, &expected, || format!("{name}, {}", shown(script)));
+    }
+}
+
+/// Asserts that both functions answer a script with these bytes where there is just enough room.
+fn assert_answers(about: &str, script: &[u8], answers: &[u8]) {
+    for (name, entry) in ENTRIES {
+        for byte in [0, b'\n', 0xA5] {
+            let mut bytes = filled_buffer(byte, answers.len());
+            assert_eq!(entry(script, inner(&mut bytes)), answers.len(), "for {name}, {about}");
+            assert_bytes(inner(&mut bytes), answers, &format!("{name}, {about}"));
+            bytes.drain(MARGIN..MARGIN + answers.len());
+            assert!(bytes.iter().all(|&other| other == byte), "for {name}, {about}");
+        }
+    }
+}
+
+/// The answers to a script, by one call that asks for their length and one that has room for them.
+fn asked(entry: Entry, script: &[u8]) -> Vec<u8> {
+    let mut answers = vec![0; entry(script, &mut [])];
+    assert_eq!(entry(script, &mut answers), answers.len());
+    answers
+}
+
+/// What was accepted since the last infer of a closed program.
+#[derive(Default)]
+struct Since {
+    redeclared: bool,
+    added: bool,
+    taken_back: bool,
+}
+
+/// What is seen of an infer beside the last one of a closed program.
+#[derive(Clone, Copy, Debug, PartialEq, Eq, PartialOrd, Ord)]
+enum Change {
+    /// Only parameters were redeclared, and both are accepted with different reports.
+    OtherReportAfterRedeclare,
+    /// Only parameters were redeclared, and the program is refused now.
+    RefusedAfterRedeclare,
+    /// Only parameters were redeclared, and the program is accepted now.
+    AcceptedAfterRedeclare,
+    /// Rows were taken back, and the program is open now.
+    OpenAfterTakeBack,
+    /// Rows were taken back and others added, and both are accepted with different reports.
+    OtherReportAfterTakeBack,
+    /// Rows were taken back and added again, and both are accepted with the same report.
+    SameReportAfterTakeBack,
+    /// Rows were taken back and others added, and the program is refused now.
+    RefusedAfterTakeBack,
+    /// Rows were taken back and others added, and the program is accepted now.
+    AcceptedAfterTakeBack,
+}
+
+impl Change {
+    /// All changes.
+    const ALL: [Change; 8] = [
+        Change::OtherReportAfterRedeclare,
+        Change::RefusedAfterRedeclare,
+        Change::AcceptedAfterRedeclare,
+        Change::OpenAfterTakeBack,
+        Change::OtherReportAfterTakeBack,
+        Change::SameReportAfterTakeBack,
+        Change::RefusedAfterTakeBack,
+        Change::AcceptedAfterTakeBack,
+    ];
+
+    /// What is seen of an infer, if anything, from the answers before and now and what was accepted between.
+    fn of(before: &[u8], now: &[u8], since: &Since) -> Option<Change> {
+        if open(now) {
+            return since.taken_back.then_some(Change::OpenAfterTakeBack);
+        }
+        let accepted = [before, now].map(|answer| answer.starts_with(b"OK"));
+        let rebuilt = since.taken_back && since.added;
+        let redeclared = since.redeclared && !since.taken_back && !since.added;
+        match accepted {
+            [true, true] if redeclared && before != now => Some(Change::OtherReportAfterRedeclare),
+            [true, false] if redeclared => Some(Change::RefusedAfterRedeclare),
+            [false, true] if redeclared => Some(Change::AcceptedAfterRedeclare),
+            [true, true] if rebuilt && before != now => Some(Change::OtherReportAfterTakeBack),
+            [true, true] if rebuilt => Some(Change::SameReportAfterTakeBack),
+            [true, false] if rebuilt => Some(Change::RefusedAfterTakeBack),
+            [false, true] if rebuilt => Some(Change::AcceptedAfterTakeBack),
+            _ => None,
+        }
+    }
+}
+
+/// Tells whether an infer is refused because the program is not closed.
+fn open(answer: &[u8]) -> bool {
+    answer.starts_with(b"NO,10,")
+}
+
+/// What occurred in many scripts.
+#[derive(Default)]
+struct Tally {
+    /// The first word of a command, or `?`, with its number, as `add 0`.
+    answers: Counts<String>,
+    changes: Counts<Change>,
+}
+
+impl Tally {
+    /// Counts what is seen in a script; gives all answers of the reference.
+    fn take(&mut self, script: &[u8]) -> Vec<u8> {
+        let mut table = Table::fresh();
+        let (mut before, mut since) = (None, Since::default());
+        let mut answers = vec![];
+        for line in lines(script) {
+            let now = answer(&mut table, line);
+            let (word, number) = (word(line), number(&now));
+            self.answers.add(format!("{word} {number}"));
+            match word {
+                "redeclare" => since.redeclared |= number == 0,
+                "add" => since.added |= number == 0,
+                "take-back" => since.taken_back |= number == 0,
+                "infer" => {
+                    let change = before.as_deref().and_then(|it| Change::of(it, &now, &since));
+                    change.into_iter().for_each(|change| self.changes.add(change));
+                    if !open(&now) {
+                        (before, since) = (Some(now.clone()), Since::default());
+                    }
+                }
+                _ => {}
+            }
+            answers.extend(now);
+        }
+        answers
+    }
+}
+
+/// The first word of a command; `?` for other lines.
+fn word(line: &[u8]) -> &'static str {
+    match Command::read(line) {
+        Some(Command::Add(_)) => "add",
+        Some(Command::Redeclare(..)) => "redeclare",
+        Some(Command::TakeBack) => "take-back",
+        Some(Command::Infer) => "infer",
+        None => "?",
+    }
+}
+
+/// The number that an answer holds; 0 for a report and for `?`.
+fn number(answer: &[u8]) -> u32 {
+    let text = String::from_utf8(answer.to_vec()).unwrap();
+    let fields: Vec<&str> = text.trim_end().split(',').collect();
+    match fields[..] {
+        ["NO", number, _] => number.parse().unwrap(),
+        [number] => number.parse().unwrap_or(0),
+        _ => 0,
+    }
+}
+
+#[test]
+fn the_examples_have_their_answers() {
+    let folder = Path::new(env!("CARGO_MANIFEST_DIR")).join("../../examples");
+    let mut scripts = 0;
+    for file in fs::read_dir(folder).unwrap() {
+        let path = file.unwrap().path();
+        if path.extension().is_some_and(|extension| extension == "script") {
+            let answers = fs::read(path.with_extension("answers")).unwrap();
+            let about = path.display().to_string();
+            assert_answers(&about, &fs::read(&path).unwrap(), &answers);
+            scripts += 1;
+        }
+    }
+    assert_ne!(scripts, 0);
+}
+
+#[test]
+fn each_program_to_try_is_answered_as_document_01_says() {
+    for program in to_try::all() {
+        let adds = lines(&program.text).count();
+        let script = adding(&program.text);
+        if !program.prints.starts_with(b"X,") {
+            let answers = [b"0\n".repeat(adds), program.prints].concat();
+            assert_answers(program.about, &script, &answers);
+            continue;
+        }
+        // The last line is refused there, and the program before it is inferred.
+        let (number, line) = (program.returns / 1_000, program.returns % 1_000);
+        assert_eq!(line as usize, adds, "for {}", program.about);
+        let front = [b"0\n".repeat(adds - 1), format!("{number}\n").into_bytes()].concat();
+        for (name, entry) in ENTRIES {
+            let found = asked(entry, &script);
+            assert_bytes(&found[..front.len()], &front, &format!("{name}, {}", program.about));
+        }
+    }
+}
+
+#[test]
+fn an_empty_script_has_no_answer() {
+    assert_answers("an empty script", b"", b"");
+    let mut random = Random::seeded(0);
+    assert_written(&mut random, b"", b"", 3);
+}
+
+#[test]
+fn scripts_of_each_kind_are_answered_alike() {
+    let mut random = Random::seeded(1);
+    let mut tally = Tally::default();
+    let (mut kinds, mut rooms) = (Counts::default(), Counts::default());
+    for _ in 0..SCRIPTS {
+        let (kind, script) = random_script(&mut random);
+        let answers = tally.take(&script);
+        let room = Room::random(&mut random);
+        let length = room.length(&mut random, answers.len());
+        assert_written(&mut random, &script, &answers, length);
+        kinds.add(kind);
+        rooms.add(room);
+    }
+    println!("{:?}\n{:?}\n{:?}\n{:?}", kinds.0, rooms.0, tally.answers.0, tally.changes.0);
+    kinds.assert_each(Kind::ALL, SCRIPTS / 30);
+    rooms.assert_each(Room::ALL, SCRIPTS / 30);
+    tally.answers.assert_each(OFTEN.map(str::to_string), SCRIPTS / 6);
+    tally.answers.assert_each(SELDOM.map(str::to_string), SCRIPTS / 60);
+    tally.changes.assert_each(Change::ALL, SCRIPTS / 150);
+    tally.changes.assert_each([Change::OtherReportAfterRedeclare], SCRIPTS / 4);
+}
+
+#[test]
+fn buffers_of_each_length_are_written_alike() {
+    let mut random = Random::seeded(2);
+    for _ in 0..30 {
+        let (_, script) = random_script(&mut random);
+        let answers = session(&script);
+        let shortest = answers.len().saturating_sub(300);
+        for length in (0..300.min(shortest)).chain(shortest..answers.len() + 40) {
+            assert_written(&mut random, &script, &answers, length);
+        }
+    }
+}
+
+#[test]
+fn the_length_is_asked_for_and_then_lent() {
+    let mut random = Random::seeded(3);
+    for _ in 0..1_000 {
+        let (_, script) = random_script(&mut random);
+        for (name, entry) in ENTRIES {
+            let about = format!("{name}, {}", shown(&script));
+            assert_bytes(&asked(entry, &script), &session(&script), &about);
+        }
+    }
+}
+
+#[test]
+fn scripts_of_one_or_two_bytes_are_answered_alike() {
+    let mut random = Random::seeded(4);
+    let mut compare = |script: &[u8]| {
+        let answers = session(script);
+        assert_written(&mut random, script, &answers, answers.len() + 1);
+    };
+    for first in 0..=255 {
+        compare(&[first]);
+        for second in 0..=255 {
+            compare(&[first, second]);
+        }
+    }
+}
+
+#[test]
+fn commands_with_any_byte_changed_are_answered_alike() {
+    let mut random = Random::seeded(5);
+    let mut unknown = 0;
+    for command in ["add E,1,LAM,0,0", "redeclare 0 10", "take-back", "infer"] {
+        for position in 0..=command.len() {
+            let (front, back) = command.as_bytes().split_at(position);
+            for byte in 0..=255 {
+                let rest = back.get(1..).unwrap_or_default();
+                for changed in [[front, &[byte], back].concat(), [front, &[byte], rest].concat()] {
+                    unknown += usize::from(Command::read(&changed).is_none());
+                    let before = b"add T,0,ANY\nadd P,0,g0,0\nadd E,0,VAR,0\n";
+                    let script = [&before[..], &changed, b"\ninfer\n"].concat();
+                    let answers = session(&script);
+                    assert_written(&mut random, &script, &answers, answers.len());
+                }
+            }
+        }
+    }
+    assert!(unknown > 10_000, "{unknown} lines were no commands only");
+}
+
+#[test]
+fn redeclarations_near_the_limits_are_answered_alike() {
+    let mut random = Random::seeded(6);
+    let numbers = ["", "0", "00", "1", "2", "6", "7", "70", "71", "255", "256", "257", "65535"];
+    let larger = ["65536", "4294967295", "4294967296", "4294967297", "18446744073709551615"];
+    let largest = ["18446744073709551616", "100000000000000000000000000000000000000000"];
+    let all: Vec<&str> = numbers.into_iter().chain(larger).chain(largest).collect();
+    let program = b"T,0,ANY\nP,0,g0,0\nP,1,AH,0\nE,0,VAR,1\nE,1,LAM,1,0\nE,2,LAM,0,1\n";
+    for parameter in &all {
+        for code in &all {
+            let mut script = adding(program);
+            script.extend(format!("redeclare {parameter} {code}\ninfer").into_bytes());
+            let answers = session(&script);
+            assert_written(&mut random, &script, &answers, answers.len());
+        }
+    }
+}
+
+#[test]
+fn deep_programs_are_answered_alike() {
+    let mut random = Random::seeded(7);
+    for (_, lines) in deep::all() {
+        let script = adding(&text_of_lines(&lines));
+        let answers = session(&script);
+        assert_written(&mut random, &script, &answers, answers.len());
+    }
+}
+
+#[test]
+fn long_scripts_are_answered_alike() {
+    const LINES: usize = 30_000;
+    let million = |byte| vec![byte; 1_000_000];
+    let repeated = |line: &str| format!("{line}\n").repeat(LINES).into_bytes();
+    let after = |script: Vec<u8>| [&b"add E,0,NUM,1\n"[..], &script, b"\ninfer\n"].concat();
+    let scripts = [
+        repeated("\n\n"),
+        after(million(b' ')),
+        after([b"add ".to_vec(), million(b'1')].concat()),
+        after([b"redeclare 0 ".to_vec(), million(b'0')].concat()),
+        after([b"infer".to_vec(), million(0)].concat()),
+        after(repeated("infer")),
+        after(repeated("add E,1,NUM,1\nredeclare 0 0\ntake-back")),
+        after(repeated("take-back\nadd E,0,ENC,AH,7\ninfer")),
+    ];
+    let mut random = Random::seeded(8);
+    for script in scripts {
+        let answers = session(&script);
+        for length in [answers.len() - 1, answers.len()] {
+            assert_written(&mut random, &script, &answers, length);
+        }
+    }
+}
