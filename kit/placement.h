@@ -1,5 +1,5 @@
 /*
- * placement, for a key loader in C or C++: a whole table in, its report or a refusal out.
+ * placement, for a key loader in C or C++: a whole table in, its report or a refusal out; or a script of commands in, the answers out.
  *
  * Link with libplacement.a, which `rt staticlib placement` writes to target/staticlib. The archive is for x86-64 Linux and needs nothing
  * else but memcpy and memset of the C library. docs/NUMBERS.md has an example and a fix for every refusal.
@@ -14,6 +14,12 @@
 extern "C" {
 #endif
 
+/* The version of this header and of the archive that belongs to it. CHANGELOG.md lists the versions. */
+#define PLACEMENT_VERSION "1.1.0"
+#define PLACEMENT_VERSION_MAJOR 1
+#define PLACEMENT_VERSION_MINOR 1
+#define PLACEMENT_VERSION_PATCH 0
+
 /* A report buffer has at least this many bytes, and no report is longer. */
 #define PLACEMENT_REPORT_LENGTH 6280
 
@@ -21,15 +27,18 @@ extern "C" {
 #define PLACEMENT_TEXT_LENGTH 25025
 
 /*
- * Stack to have free for a call, in bytes. Measured: 38,000 for ordinary tables, 53,000 for the deepest types found. Nothing proves a bound;
- * kit/test measures it anew and holds it to this number.
+ * Stack to have free for a call, in bytes. Measured for placement_report: 30,000 for ordinary tables, 59,000 for the deepest types found; for
+ * placement_session on the same lines: 49,000 and 78,000. Nothing proves a bound; kit/test measures both anew and holds them to this number.
  */
 #define PLACEMENT_STACK_LENGTH 131072
 
-/* A result from here on is this number plus the report's length. Below it, a result is 1,000 times a refusal's number plus its line or row. */
+/*
+ * What placement_report returns: from here on this number plus the report's length; below it 1,000 times a refusal's number plus its line
+ * or row.
+ */
 #define PLACEMENT_ACCEPTED 100000u
 
-/* The refusals' numbers. 9 and 12 belong to calls that this entry does not make. */
+/* The refusals' numbers. */
 enum placement_refusal {
     /* With the line's number, counted from 1. */
     PLACEMENT_NO_FORM = 1,           /* longer than 64 bytes, or none of the forms */
@@ -46,7 +55,10 @@ enum placement_refusal {
     /* With the term row's number, counted from 0: the least one that leaves no typing. */
     PLACEMENT_NO_SHAPES = 21,        /* no typing, even when qualifiers are ignored */
     PLACEMENT_NO_QUALIFIERS = 22,    /* no typing, even when "at or below" is dropped */
-    PLACEMENT_NO_BOUNDS = 23         /* no typing */
+    PLACEMENT_NO_BOUNDS = 23,        /* no typing */
+    /* In the answers to a script only. */
+    PLACEMENT_NO_TERM_ROW = 9,       /* take-back with no term row */
+    PLACEMENT_NO_CODE = 12           /* redeclare with a code above 70 */
 };
 
 /*
@@ -66,6 +78,30 @@ enum placement_refusal {
  * every text.
  */
 uint32_t placement_report(const uint8_t *text, size_t text_length, uint8_t *report, size_t report_length);
+
+/*
+ * Answers the commands of a script in turn, from a fresh table on.
+ *
+ * A script has one command a line; a last line without a line feed counts if it is not empty. Each line is answered by one or more lines:
+ *
+ *   add LINE           its number: 0, or a refusal's. LINE is a line of a table, any bytes
+ *   redeclare P CODE   its number. Gives parameter P another qualifier: codes 0 to 6 are PLAIN, FHE, OP, DET, MH, AH and RAND, and
+ *                      7 to 70 are g0 to g63. Both numbers are decimal, at most 4294967295 and without leading zeros
+ *   take-back          its number. Drops the last term row
+ *   infer              the report, or NO,number,row
+ *   any other line     ? and nothing is changed
+ *
+ * Returns the length of all answers, at most SIZE_MAX. Where the buffer is long enough, they stand at its front, without a 0 at their end,
+ * and the bytes beyond them are as they were. Where it is shorter, the whole buffer is as it was: call again with a buffer of that length.
+ *
+ * script: any bytes, of any length. They are read and never changed.
+ * answers: the caller's buffer. Nothing of it, or of the script, is kept after the call, and the next call starts from a fresh table again.
+ *
+ * The caller owes what placement_report asks for: pointers that are not null, also for length 0; lengths that are true; no overlap; nobody
+ * else who writes during the call; and PLACEMENT_STACK_LENGTH bytes of free stack. This call takes no other memory, holds no state and ends
+ * for every script too, so threads may call it at once, each with a buffer of its own.
+ */
+size_t placement_session(const uint8_t *script, size_t script_length, uint8_t *answers, size_t answers_length);
 
 /* Whether a result stands for a report. */
 static inline int placement_accepted(uint32_t result) {

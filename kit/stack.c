@@ -1,6 +1,7 @@
 /*
- * Measures the stack that calls of the entry take. Each table named is given to a call in a thread whose stack was painted before; what is
- * no longer paint was used. Status 1 where a call took more than PLACEMENT_STACK_LENGTH.
+ * Measures the stack that calls of the entries take. Each table named is given to placement_report, and the script that adds its lines and
+ * infers to placement_session, each in a thread whose stack was painted before; what is no longer paint was used. Status 1 where a call
+ * took more than PLACEMENT_STACK_LENGTH.
  */
 #include "placement.h"
 
@@ -14,20 +15,66 @@
 #define ROOM ((size_t)1 << 20)
 #define PAINT 0xA5
 
+#define ADD "add "
+#define INFER "infer\n"
+
 static uint8_t text[PLACEMENT_TEXT_LENGTH];
 static size_t text_length;
 static uint8_t report[PLACEMENT_REPORT_LENGTH];
 
+/* A text of line feeds alone has the longest script. An add is answered by at most two digits and a line feed. */
+static uint8_t script[PLACEMENT_TEXT_LENGTH * sizeof ADD + sizeof INFER];
+static size_t script_length;
+static uint8_t answers[PLACEMENT_TEXT_LENGTH * 3 + PLACEMENT_REPORT_LENGTH];
+
+/* An entry whose calls are measured, and the call that took the most. */
+struct measure {
+    const char *name;
+    void *(*call)(void *);
+    size_t most;
+    const char *deepest;
+};
+
 /* Makes one call and hands back where its stack began. */
-static void *call(void *unused) {
+static void *call_report(void *unused) {
     (void)unused;
     void *begin = __builtin_frame_address(0);
     placement_report(text, text_length, report, sizeof report);
     return begin;
 }
 
-/* The bytes of stack that a call on the text takes, with the frame of `call`; 0 where no thread could be made. */
-static size_t taken(uint8_t *stack) {
+/* The same for the script. */
+static void *call_session(void *unused) {
+    (void)unused;
+    void *begin = __builtin_frame_address(0);
+    placement_session(script, script_length, answers, sizeof answers);
+    return begin;
+}
+
+/* Appends bytes to the script. */
+static void append(const void *bytes, size_t length) {
+    memcpy(script + script_length, bytes, length);
+    script_length += length;
+}
+
+/* Makes the script that adds the text's lines and infers. */
+static void make_script(void) {
+    size_t line = 0;
+
+    script_length = 0;
+    while (line < text_length) {
+        const uint8_t *end = memchr(text + line, '\n', text_length - line);
+        size_t length = end == NULL ? text_length - line : (size_t)(end - (text + line));
+        append(ADD, sizeof ADD - 1);
+        append(text + line, length);
+        append("\n", 1);
+        line += length + 1;
+    }
+    append(INFER, sizeof INFER - 1);
+}
+
+/* The bytes of stack that a call takes, with the frame of the function that makes it; 0 where no thread could be made. */
+static size_t taken(void *(*call)(void *), uint8_t *stack) {
     pthread_attr_t attributes;
     pthread_t thread;
     void *begin = NULL;
@@ -45,33 +92,52 @@ static size_t taken(uint8_t *stack) {
     return (size_t)((uint8_t *)begin - (stack + clean));
 }
 
+/* Reads a table and makes its script; where it cannot be read, says why and returns 0. */
+static int read_table(const char *path) {
+    FILE *file = fopen(path, "rb");
+
+    if (file == NULL) {
+        perror(path);
+        return 0;
+    }
+    text_length = fread(text, 1, sizeof text, file);
+    fclose(file);
+    make_script();
+    return 1;
+}
+
+/* Measures one call on the table that was read; returns 0 where that fails. */
+static int take(struct measure *measure, const char *path, uint8_t *stack) {
+    size_t bytes = taken(measure->call, stack);
+
+    if (bytes == 0) {
+        fprintf(stderr, "no thread for %s\n", path);
+        return 0;
+    }
+    if (bytes > measure->most) {
+        measure->most = bytes;
+        measure->deepest = path;
+    }
+    return 1;
+}
+
 int main(int count, char **arguments) {
-    size_t most = 0;
-    const char *deepest = "none";
+    struct measure measures[2] = {{"placement_report", call_report, 0, "none"}, {"placement_session", call_session, 0, "none"}};
     uint8_t *stack = mmap(NULL, ROOM, PROT_READ | PROT_WRITE, MAP_PRIVATE | MAP_ANONYMOUS, -1, 0);
+    int within = count > 1;
 
     if (stack == MAP_FAILED) {
         perror("mmap");
         return 2;
     }
     for (int i = 1; i < count; i++) {
-        FILE *file = fopen(arguments[i], "rb");
-        if (file == NULL) {
-            perror(arguments[i]);
+        if (!read_table(arguments[i]) || !take(&measures[0], arguments[i], stack) || !take(&measures[1], arguments[i], stack)) {
             return 2;
-        }
-        text_length = fread(text, 1, sizeof text, file);
-        fclose(file);
-        size_t bytes = taken(stack);
-        if (bytes == 0) {
-            fprintf(stderr, "no thread for %s\n", arguments[i]);
-            return 2;
-        }
-        if (bytes > most) {
-            most = bytes;
-            deepest = arguments[i];
         }
     }
-    printf("at most %zu bytes of stack (%s)\n", most, deepest);
-    return most > 0 && most <= PLACEMENT_STACK_LENGTH ? 0 : 1;
+    for (int i = 0; i < 2; i++) {
+        printf("%s: at most %zu bytes of stack (%s)\n", measures[i].name, measures[i].most, measures[i].deepest);
+        within = within && measures[i].most <= PLACEMENT_STACK_LENGTH;
+    }
+    return within ? 0 : 1;
 }

@@ -1,6 +1,6 @@
-//! The archive's entry as a safe function; kit/placement.h says what it does and what its caller owes.
+//! The archive's entries as safe functions; kit/placement.h says what they do and what their caller owes.
 
-/// The shortest report buffer that the entry takes; no report is longer.
+/// The shortest report buffer that the entry for tables takes; no report is longer.
 pub const REPORT_LENGTH: usize = 6280;
 
 mod raw {
@@ -11,6 +11,13 @@ mod raw {
             report: *mut u8,
             report_length: usize,
         ) -> u32;
+
+        pub fn placement_session(
+            script: *const u8,
+            script_length: usize,
+            answers: *mut u8,
+            answers_length: usize,
+        ) -> usize;
     }
 }
 
@@ -18,4 +25,11 @@ mod raw {
 pub fn placement_report(text: &[u8], report: &mut [u8]) -> u32 {
     // SAFETY: slices are never null, are valid for their lengths, and a mutable one overlaps no other.
     unsafe { raw::placement_report(text.as_ptr(), text.len(), report.as_mut_ptr(), report.len()) }
+}
+
+/// Gives the length of all answers to a script; writes them to the buffer's front where there is room for all.
+pub fn placement_session(script: &[u8], answers: &mut [u8]) -> usize {
+    let (buffer, length) = (answers.as_mut_ptr(), answers.len());
+    // SAFETY: as above.
+    unsafe { raw::placement_session(script.as_ptr(), script.len(), buffer, length) }
 }

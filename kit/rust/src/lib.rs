@@ -1,6 +1,7 @@
-//! Under which encryption scheme each input of a job leaves its owner's house: a table in, a report or a refusal out.
+//! Under which encryption scheme each input of a job leaves its owner's house: a table in, a report or a refusal out; or a script of
+//! commands in, the answers out.
 //!
-//! The work is done by a proved library, which is linked as an archive. This crate only lends it a buffer and takes its answer apart.
+//! The work is done by a proved library, which is linked as an archive. This crate only lends it buffers and takes its answers apart.
 //!
 //! ```
 //! let report = placement::report(b"E,0,ENC,AH,5\n").unwrap();
@@ -9,6 +10,9 @@
 //! let refusal = placement::report(b"E,0,NUM,1\nE,1,APP,0,0\n").unwrap_err();
 //! assert_eq!(refusal.number, 7);
 //! assert_eq!(refusal.place, placement::Place::Line(2));
+//!
+//! let answers = placement::session(b"add E,0,ENC,AH,5\ninfer\ntake-back\ninfer\n");
+//! assert_eq!(answers, b"0\nOK,0,1\nE,0,AH,INT\n0\nNO,10,0\n");
 //! ```
 
 #![warn(missing_docs)]
@@ -60,6 +64,18 @@ pub fn report(text: &[u8]) -> Result<Report, Refusal> {
     let length = refusal::taken_apart(entry::placement_report(text, &mut bytes))?;
     bytes.truncate(length);
     Ok(Report { bytes })
+}
+
+/// Answers the commands of a script in turn, from a fresh table on: `add LINE`, `redeclare P CODE`, `take-back` and `infer`, one a line.
+///
+/// The first three are answered by their number, 0 or a refusal's, an infer by the report or `NO,number,row`, and any other line by `?`; each
+/// answer ends in a line feed. kit/placement.h says more of each.
+///
+/// The script is run twice, once for the length of all answers. Threads may call it at once; it takes as much stack as [`report`].
+pub fn session(script: &[u8]) -> Vec<u8> {
+    let mut answers = vec![0; entry::placement_session(script, &mut [])];
+    entry::placement_session(script, &mut answers);
+    answers
 }
 
 #[cfg(test)]

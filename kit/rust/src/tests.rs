@@ -1,13 +1,18 @@
-//! The safe function over the archive, and the entry beneath it.
+//! The safe functions over the archive, and the entries beneath them.
 
-use crate::entry::{placement_report, REPORT_LENGTH};
+use crate::entry::{placement_report, placement_session, REPORT_LENGTH};
 use crate::refusal::taken_apart;
-use crate::{report, Place, Refusal};
+use crate::{report, session, Place, Refusal};
 use std::thread;
 
 const PROGRAM_A: &[u8] = b"T,0,ANY\nP,0,g0,0\nE,0,VAR,0\nE,1,VAR,0\nE,2,OP,ADD,0,1\nE,3,LAM,0,2\n";
 const REPORT_A: &[u8] =
     b"OK,1,4\nG,0,AH\nP,0,AH,INT\nE,0,AH,INT\nE,1,AH,INT\nE,2,AH,INT\nE,3,PLAIN,ARROW\n";
+
+/// A script with all four commands, and its answers.
+const SCRIPT: &[u8] =
+    b"add E,0,NUM,1\ninfer\nredeclare 0 71\nadd E,2,NUM,1\nhelp\ntake-back\ntake-back\ninfer";
+const ANSWERS: &[u8] = b"0\nOK,0,1\nE,0,PLAIN,INT\n5\n2\n?\n0\n9\nNO,10,0\n";
 
 fn refusal(text: &[u8]) -> Refusal {
     report(text).unwrap_err()
@@ -136,6 +141,7 @@ fn threads_may_call_at_once() {
         for _ in 0..200 {
             assert_eq!(report(PROGRAM_A).unwrap().as_bytes(), REPORT_A);
             assert_eq!(refusal(b"E,0,NUM,01").number, 1);
+            assert_eq!(session(SCRIPT), ANSWERS);
         }
     };
     thread::scope(|scope| {
@@ -143,4 +149,61 @@ fn threads_may_call_at_once() {
             scope.spawn(calls);
         }
     });
+}
+
+#[test]
+fn a_script_has_its_answers() {
+    assert_eq!(session(SCRIPT), ANSWERS);
+    let ended = [SCRIPT, b"\n"].concat();
+    assert_eq!(session(&ended), ANSWERS);
+}
+
+#[test]
+fn a_script_asks_what_if() {
+    let script = include_bytes!("../../../examples/what-if.script");
+    let answers = include_bytes!("../../../examples/what-if.answers");
+    assert_eq!(
+        session(script).escape_ascii().to_string(),
+        answers.escape_ascii().to_string()
+    );
+}
+
+#[test]
+fn each_script_starts_from_a_fresh_table() {
+    assert_eq!(session(b"add E,0,NUM,1"), b"0\n");
+    assert_eq!(session(b"infer"), b"NO,10,0\n");
+    assert_eq!(session(b"add E,0,NUM,1"), b"0\n");
+}
+
+#[test]
+fn an_empty_script_has_no_answer() {
+    assert_eq!(session(b""), b"");
+}
+
+#[test]
+fn any_bytes_are_a_script() {
+    let bytes: Vec<u8> = (0..100_000u32).map(|i| (i % 256) as u8).collect();
+    let lines = bytes.split(|&byte| byte == b'\n').count();
+    assert_eq!(session(&bytes), b"?\n".repeat(lines));
+    assert_eq!(session(b"\n"), b"?\n");
+    assert_eq!(session(b"add \0\ninfer\r\n"), b"1\n?\n");
+}
+
+#[test]
+fn a_buffer_that_is_too_short_is_left() {
+    for length in 0..ANSWERS.len() {
+        let mut short = vec![7; length];
+        assert_eq!(placement_session(SCRIPT, &mut short), ANSWERS.len());
+        assert!(short.iter().all(|&byte| byte == 7));
+    }
+}
+
+#[test]
+fn bytes_beyond_the_answers_are_left() {
+    for more in 0..9 {
+        let mut buffer = vec![7; ANSWERS.len() + more];
+        assert_eq!(placement_session(SCRIPT, &mut buffer), ANSWERS.len());
+        assert_eq!(&buffer[..ANSWERS.len()], ANSWERS);
+        assert!(buffer[ANSWERS.len()..].iter().all(|&byte| byte == 7));
+    }
 }
