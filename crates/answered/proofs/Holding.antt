@@ -11,7 +11,7 @@ use denote.Struct.Field.{Field, array-field}
 use denote.Struct.Laws as Struct
 use denote.Struct.Laws.{FLaws, array-laws}
 use denote.Enum.Laws as Enum
-use Rattle.model.specs.Machine.{Machine}
+use Rattle.model.specs.Machine.{Machine, noTypeRow, noParam, noTermRow}
 use Rattle.model.specs.WellFormed.{TypeStands, ParamStands, TermStands, WellFormed}
 use Rattle.model.specs.declared.TypeForm.{TypeForm}
 use Rattle.model.specs.declared.TypeForm.the-variants.{Int, Any, Arrow}
@@ -35,7 +35,6 @@ use Rattle.table.specs.Lists.{lists}
 use Rattle.table.proofs.Table as TableType
 use Rattle.table.proofs.Table.Laws as TableLaws
 use Rattle.table.proofs.Counts.{Owned}
-use Rattle.table.proofs.Entries.{no-type, no-param, no-row}
 use Rattle.answered.proofs.Entries.{filled, length-filled, take-filled, each-filled}
 use Rattle.answered.proofs.Literals.{Literal, Literals}
 
@@ -83,9 +82,9 @@ row-held params i few below row h l = Struct.owes TermRowType.the-type TermRowLa
 -- The table in which a machine stands.
 abbrev pub tableOf : Machine → Table
 tableOf m = record {
-  types = filled 64 no-type (m .types);
-  params = filled 64 no-param (m .params);
-  terms = filled 256 no-row (m .terms);
+  types = filled 64 noTypeRow (m .types);
+  params = filled 64 noParam (m .params);
+  terms = filled 256 noTermRow (m .terms);
   typecount = length (m .types);
   paramcount = length (m .params);
   termcount = length (m .terms);
@@ -93,26 +92,26 @@ tableOf m = record {
 
 pub lists-table : (m : Machine) → lists (tableOf m) ≡ m
 unfolding lists
-lists-table m = λ i. record { types = take-filled 64 no-type (m .types) i; params = take-filled 64 no-param (m .params) i; terms = take-filled 256 no-row (m .terms) i }
+lists-table m = λ i. record { types = take-filled 64 noTypeRow (m .types) i; params = take-filled 64 noParam (m .params) i; terms = take-filled 256 noTermRow (m .terms) i }
 
 module _ (m : Machine) (w : WellFormed m) (literals : Literals m) where
   types-held : Held (array-field TypeRowType.the-field 64) (array-laws TypeRowType.the-field TypeRowLaws.the-field-laws 64) (tableOf m .types)
   types-held =
-      array-held TypeRowType.the-field TypeRowLaws.the-field-laws no-type 64 (m .types) (w .types-fit)
-      (type-held 0 (omega arith) no-type tt)
-      (λ i h. type-held i (omega (arith, w .types-fit)) (getD (m .types) i no-type) (w .types-stand i h))
+      array-held TypeRowType.the-field TypeRowLaws.the-field-laws noTypeRow 64 (m .types) (w .types-fit)
+      (type-held 0 (omega arith) noTypeRow tt)
+      (λ i h. type-held i (omega (arith, w .types-fit)) (getD (m .types) i noTypeRow) (w .types-stand i h))
 
   params-held : Held (array-field ParamType.the-field 64) (array-laws ParamType.the-field ParamLaws.the-field-laws 64) (tableOf m .params)
   params-held =
-      array-held ParamType.the-field ParamLaws.the-field-laws no-param 64 (m .params) (w .params-fit)
-      (param-held 1 (omega arith) no-param (omega arith, omega arith))
-      (λ i h. param-held (length (m .types)) (w .types-fit) (getD (m .params) i no-param) (w .params-stand i h))
+      array-held ParamType.the-field ParamLaws.the-field-laws noParam 64 (m .params) (w .params-fit)
+      (param-held 1 (omega arith) noParam (omega arith, omega arith))
+      (λ i h. param-held (length (m .types)) (w .types-fit) (getD (m .params) i noParam) (w .params-stand i h))
 
   terms-held : Held (array-field TermRowType.the-field 256) (array-laws TermRowType.the-field TermRowLaws.the-field-laws 256) (tableOf m .terms)
   terms-held =
-      array-held TermRowType.the-field TermRowLaws.the-field-laws no-row 256 (m .terms) (w .terms-fit)
-      (row-held 1 1 (omega arith) (omega arith) no-row (omega arith, omega arith) tt)
-      (λ i h. row-held (length (m .params)) i (w .params-fit) (omega (arith, w .terms-fit)) (getD (m .terms) i no-row) (w .terms-stand i h) (literals i))
+      array-held TermRowType.the-field TermRowLaws.the-field-laws noTermRow 256 (m .terms) (w .terms-fit)
+      (row-held 1 1 (omega arith) (omega arith) noTermRow (omega arith, omega arith) tt)
+      (λ i h. row-held (length (m .params)) i (w .params-fit) (omega (arith, w .terms-fit)) (getD (m .terms) i noTermRow) (w .terms-stand i h) (literals i))
 
   pub table-owned : Owned (tableOf m)
   table-owned =

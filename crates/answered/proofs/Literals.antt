@@ -6,7 +6,7 @@ use mathlib.Core.Path.{_≡_, refl}
 use lib.Dec.{eqb}
 use lib.ListN.{length}
 use Rattle.model.specs.Line.{fields, given, choose, exactly, intLine, anyLine, arrowLine, paramLine, lamLine, appLine, opLine, varLine, numLine, encLine, typeLine, leafLine, termLine, lineOf}
-use Rattle.model.specs.Machine.{Machine, freshMachine, termAt, entered, added, redeclared, takenBack}
+use Rattle.model.specs.Machine.{Machine, freshMachine, noTermRow, termAt, entered, added, redeclared, takenBack}
 use Rattle.model.specs.Session.{Call, Outcome, Answers, adds, redeclares, takes-back, infers}
 use Rattle.model.specs.declared.Field.{Field}
 use Rattle.model.specs.declared.Field.the-variants.{Value, NoValue}
@@ -16,7 +16,6 @@ use Rattle.model.specs.declared.Line.{Line}
 use Rattle.model.specs.declared.Line.the-variants.{TypeLine, ParamLine, TermLine, NoForm}
 use Rattle.model.proofs.Checks.{settled-keeps}
 use Rattle.line.proofs.Bounds.{number-at-most}
-use Rattle.table.proofs.Entries.{no-row}
 use Rattle.answered.proofs.Entries.{each-appended, each-taken}
 
 abbrev pub Literal : Term → Type 0
@@ -92,12 +91,12 @@ module _ (m : Machine) (literals : Literals m) where
   unfolding entered
   entered-literals (TypeLine i form) h = settled-keeps Literals m _ _ literals (λ e. literals)
   entered-literals (ParamLine p param) h = settled-keeps Literals m _ _ literals (λ e. literals)
-  entered-literals (TermLine i term) h = settled-keeps Literals m _ _ literals (λ e. each-appended (λ row. Literal (row .term)) no-row tt (m .terms) (record { term = term }) literals h)
+  entered-literals (TermLine i term) h = settled-keeps Literals m _ _ literals (λ e. each-appended (λ row. Literal (row .term)) noTermRow tt (m .terms) (record { term = term }) literals h)
   entered-literals NoForm h = settled-keeps Literals m _ _ literals (λ e. literals)
 
   pub answers-literals : {call : Call} {o : Outcome} {after : Machine} → Answers m call o after → Literals after
   unfolding added redeclared takenBack
   answers-literals (adds {line}) = entered-literals (lineOf line) (line-literal line)
   answers-literals (redeclares {p} {code}) = settled-keeps Literals m _ _ literals (λ e. literals)
-  answers-literals takes-back = settled-keeps Literals m _ _ literals (λ e. each-taken (λ row. Literal (row .term)) no-row tt (length (m .terms) - 1) (m .terms) literals)
+  answers-literals takes-back = settled-keeps Literals m _ _ literals (λ e. each-taken (λ row. Literal (row .term)) noTermRow tt (length (m .terms) - 1) (m .terms) literals)
   answers-literals (infers i) = literals

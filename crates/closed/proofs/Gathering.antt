@@ -8,13 +8,13 @@ use lib.Dec.{eqb}
 use lib.ListN.{length, drop, getD, drop-of-length-le}
 use lib.Seq.{drop-cons}
 use Rattle.model.specs.Lists.{allOf, contains}
-use Rattle.model.specs.Machine.{binds, bound}
+use Rattle.model.specs.Machine.{noTermRow, binds, bound}
 use Rattle.model.specs.declared.TermRow.{TermRow}
 use Rattle.model.specs.declared.Term.{Term}
 use Rattle.model.specs.declared.Term.the-variants.{Lam, Var}
 use Rattle.table.specs.Lists.{lists}
 use Rattle.table.specs.declared.Table.{Table}
-use Rattle.table.proofs.Entries.{no-row, row-at}
+use Rattle.table.proofs.Entries.{row-at}
 use Rattle.closed.specs.Members.{member}
 use Rattle.closed.specs.Reads.{reads}
 use Rattle.closed.proofs.Bits.{none-member}
@@ -42,12 +42,12 @@ pub gathered-none : (t : Table) → Gathered t 0 0
 gathered-none t p below = rw (none-member p)
 
 module _ (t : Table) (i set : ℕ) (gathered : Gathered t i set) where
-  pub gathered-more : (after : ℕ) → i < length (lists t .terms) → With (λ q. contains q (binds (getD (t .terms) i no-row .term))) set after → Gathered t (i + 1) after
+  pub gathered-more : (after : ℕ) → i < length (lists t .terms) → With (λ q. contains q (binds (getD (t .terms) i noTermRow .term))) set after → Gathered t (i + 1) after
   gathered-more after h w p below =
-      let split : bound (drop i (lists t .terms)) p ≡ (contains p (binds (getD (t .terms) i no-row .term)) || bound (drop (i + 1) (lists t .terms)) p) =
-      rw (add-one, drop-cons (lists t .terms) i no-row, row-at t i h) in
+      let split : bound (drop i (lists t .terms)) p ≡ (contains p (binds (getD (t .terms) i noTermRow .term)) || bound (drop (i + 1) (lists t .terms)) p) =
+      rw (add-one, drop-cons (lists t .terms) i noTermRow, row-at t i h) in
       ap (λ (b : Bool). b || bound (drop (i + 1) (lists t .terms)) p) (w p below)
-      ∙ swap (contains p (binds (getD (t .terms) i no-row .term))) (member set p) (bound (drop (i + 1) (lists t .terms)) p)
+      ∙ swap (contains p (binds (getD (t .terms) i noTermRow .term))) (member set p) (bound (drop (i + 1) (lists t .terms)) p)
       ∙ ap (λ (b : Bool). member set p || b) (sym split)
       ∙ gathered p below
 

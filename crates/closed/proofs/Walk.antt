@@ -11,7 +11,7 @@ use lib.ListN.{length, getD, set, replicate, length-set}
 use lib.Seq.{getD-set-same, getD-set-other}
 use borrow.Author.Tests.{eqb-true, eqb-false, eq-eqb, not-true, not-false}
 use Rattle.model.specs.Lists.{allOf, contains}
-use Rattle.model.specs.Machine.{Machine, termAt, children, binds, used}
+use Rattle.model.specs.Machine.{Machine, noTermRow, termAt, children, binds, used}
 use Rattle.model.specs.Closed.{Closed, Inside}
 use Rattle.model.specs.WellFormed.{TermStands, WellFormed}
 use Rattle.model.specs.declared.TermRow.{TermRow}
@@ -24,7 +24,7 @@ use Rattle.table.specs.Children.{listed}
 use Rattle.table.specs.declared.Table.{Table}
 use Rattle.table.specs.declared.term.Children.{Children}
 use Rattle.table.specs.declared.term.Children.the-variants.{One, Two}
-use Rattle.table.proofs.Entries.{no-row, row-at}
+use Rattle.table.proofs.Entries.{row-at}
 use Rattle.closed.specs.Members.{member}
 use Rattle.closed.specs.Reads.{reads}
 use Rattle.closed.specs.Decides.{Tree, DecidesTree}
@@ -136,7 +136,7 @@ module _ (m : Machine) (w : WellFormed m) where
 
       row-used : Reached m i r → r + 1 < length (m .terms) → used (m .terms) r ≡ true
       row-used (last e) h = let z : ⊥ = omega arith in absurd z
-      row-used (of-parent {j} past below e) h = any-at (λ row. contains r (children (row .term))) (m .terms) j no-row below e
+      row-used (of-parent {j} past below e) h = any-at (λ row. contains r (children (row .term))) (m .terms) j noTermRow below e
 
       pub row-scope : Scope m r (getD scopes r 0)
       row-scope = walked .scoped r row-stands reached-row
@@ -206,7 +206,7 @@ module _ (m : Machine) (w : WellFormed m) where
         go : Dec (r + 1 ≡ length (m .terms)) → ⊥
         go (yes e) = refute (last e)
         go (no e) =
-            let (j, below, parent) = some-at (λ row. contains r (children (row .term))) (m .terms) no-row (closed .every-child r (omega (arith, row-stands))) in
+            let (j, below, parent) = some-at (λ row. contains r (children (row .term))) (m .terms) noTermRow (closed .every-child r (omega (arith, row-stands))) in
             refute (of-parent {j = j} (omega (arith, parent-above m w j r below parent)) below parent)
 
   pub walk-ends : (marks scopes : List ℕ) (i : ℕ) → i ≡ 0 → Walked m marks scopes i → Tree m
@@ -221,17 +221,17 @@ module _ (t : Table) (w : WellFormed (lists t)) (marks scopes : List ℕ) (i : �
   last-row : i - 1 < length (lists t .terms)
   last-row = omega (arith, walked .within)
 
-  row-is : termAt (lists t) (i - 1) ≡ getD (t .terms) (i - 1) no-row .term
+  row-is : termAt (lists t) (i - 1) ≡ getD (t .terms) (i - 1) noTermRow .term
   row-is = ap (λ (row : TermRow). row .term) (row-at t (i - 1) last-row)
 
   pub row-within : i - 1 < 256
   row-within = omega (arith, last-row, w .terms-fit)
 
-  child-within : (k : Children) (c : ℕ) → listed k ≡ children (getD (t .terms) (i - 1) no-row .term) → contains c (listed k) ≡ true → c < 256
+  child-within : (k : Children) (c : ℕ) → listed k ≡ children (getD (t .terms) (i - 1) noTermRow .term) → contains c (listed k) ≡ true → c < 256
   child-within k c kids there =
       omega (arith, row-within, parent-above (lists t) w (i - 1) c last-row (ap (λ (term : Term). contains c (children term)) row-is ∙ ap (contains c) (sym kids) ∙ there))
 
-  module _ (k : Children) (kids : listed k ≡ children (getD (t .terms) (i - 1) no-row .term)) where
+  module _ (k : Children) (kids : listed k ≡ children (getD (t .terms) (i - 1) noTermRow .term)) where
     pub only-within : (a : ℕ) → k ≡ One a → a < 256
     only-within a e = child-within k a kids (cc (eq-eqb a a refl))
 
@@ -244,7 +244,7 @@ module _ (t : Table) (w : WellFormed (lists t)) (marks scopes : List ℕ) (i : �
   pub row-not-reached : getD marks (i - 1) 0 ≡ 0 → DecidesTree (lists t) false
   row-not-reached unmarked = record { tree = λ e. absurd (false≢true e); no-tree = λ e. not-reached (lists t) w marks scopes i walked (i - 1) (omega arith) unmarked }
 
-  module _ (mark : getD marks (i - 1) 0 ≡ 0 → ⊥) (found : Bool) (test : found ≡ allOf (member (getD scopes (i - 1) 0)) (reads (getD (t .terms) (i - 1) no-row .term))) where
+  module _ (mark : getD marks (i - 1) 0 ≡ 0 → ⊥) (found : Bool) (test : found ≡ allOf (member (getD scopes (i - 1) 0)) (reads (getD (t .terms) (i - 1) noTermRow .term))) where
     pub var-not-found : not found ≡ true → DecidesTree (lists t) false
     var-not-found h =
         record {
@@ -252,8 +252,8 @@ module _ (t : Table) (w : WellFormed (lists t)) (marks scopes : List ℕ) (i : �
           no-tree = λ e. not-inside (lists t) w marks scopes i walked (i - 1) (omega arith) mark (ap (λ (term : Term). allOf (member (getD scopes (i - 1) 0)) (reads term)) row-is ∙ sym test ∙ not-true found h);
         }
 
-    pub row-turned : not found ≡ false → (inner : ℕ) → ((q : ℕ) → q < 64 → member inner q ≡ (contains q (binds (getD (t .terms) (i - 1) no-row .term)) || member (getD scopes (i - 1) 0) q)) →
-        (k : Children) → listed k ≡ children (getD (t .terms) (i - 1) no-row .term) → (cs : List ℕ) → listed k ≡ cs → Walked (lists t) (stores cs 1 marks) (stores cs inner scopes) (i - 1)
+    pub row-turned : not found ≡ false → (inner : ℕ) → ((q : ℕ) → q < 64 → member inner q ≡ (contains q (binds (getD (t .terms) (i - 1) noTermRow .term)) || member (getD scopes (i - 1) 0) q)) →
+        (k : Children) → listed k ≡ children (getD (t .terms) (i - 1) noTermRow .term) → (cs : List ℕ) → listed k ≡ cs → Walked (lists t) (stores cs 1 marks) (stores cs inner scopes) (i - 1)
     row-turned h inner grown k kids cs are =
         turn (lists t) w marks scopes i walked (i - 1) (omega arith) mark cs inner (ap children row-is ∙ sym kids ∙ are)
         (λ q below. grown q below ∙ ap (λ (term : Term). contains q (binds term) || member (getD scopes (i - 1) 0) q) (sym row-is))

@@ -6,7 +6,7 @@ use mathlib.Core.List.{List, [], _∷_, _++_}
 use lib.Dec.{eqb}
 use lib.ListN.{length, take, set}
 use Rattle.model.specs.Line.{lineOf}
-use Rattle.model.specs.Machine.{Machine, paramAt}
+use Rattle.model.specs.Machine.{Machine, paramAt, withQualifier}
 use Rattle.model.specs.Session.{Call, add, redeclare, take-back, infer, Outcome}
 use Rattle.model.specs.declared.Line.{Line}
 use Rattle.model.specs.declared.Line.the-variants.{TypeLine, ParamLine, TermLine, NoForm}
@@ -23,7 +23,7 @@ abbrev pub described : Machine → Call → Machine
 described m (add line) = appended m (lineOf line)
 -- **Redeclare**: "replaces that parameter's qualifier".
 described m (redeclare p code) =
-    record { types = m .types; params = set (m .params) p (record { qualifier = code; typerow = paramAt m p .typerow }); terms = m .terms }
+    record { types = m .types; params = set (m .params) p (withQualifier code (paramAt m p)); terms = m .terms }
 -- **Take-back**: "drops the last term row".
 described m take-back = record { types = m .types; params = m .params; terms = take (length (m .terms) - 1) (m .terms) }
 -- **Infer**: "reads the lists, changes none".

@@ -27,15 +27,25 @@ pub record Machine : Type 0 where
 abbrev pub freshMachine : Machine
 freshMachine = record { types = []; params = []; terms = [] }
 
--- The entry of a list with a number. None is asked for past the end of a list, where these have a row that stands for nothing.
+-- Entries that stand for nothing: what a list has past its end, where none is asked for.
+abbrev pub noTypeRow : TypeRow
+noTypeRow = record { form = Int }
+
+abbrev pub noParam : Param
+noParam = record { qualifier = 0; typerow = 0 }
+
+abbrev pub noTermRow : TermRow
+noTermRow = record { term = Lam 0 0 }
+
+-- The entry of a list with a number.
 abbrev pub formIn : List TypeRow → ℕ → TypeForm
-formIn types t = getD types t (record { form = Int }) .form
+formIn types t = getD types t noTypeRow .form
 
 abbrev pub paramIn : List Param → ℕ → Param
-paramIn params p = getD params p (record { qualifier = 0; typerow = 0 })
+paramIn params p = getD params p noParam
 
 abbrev pub termIn : List TermRow → ℕ → Term
-termIn terms i = getD terms i (record { term = Lam 0 0 }) .term
+termIn terms i = getD terms i noTermRow .term
 
 -- The machine's entry with a number.
 abbrev pub typeAt : Machine → ℕ → TypeForm
@@ -150,12 +160,16 @@ entered m NoForm = settled m 1 m
 unfoldable pub added : Machine → List ℕ → Change
 added m line = entered m (lineOf line)
 
--- **Redeclare** (parameter, code 0 to 70): "replaces that parameter's qualifier"; "redeclare 5, then 12".
+-- "replaces that parameter's qualifier"
+abbrev pub withQualifier : ℕ → Param → Param
+withQualifier code param = record { qualifier = code; typerow = param .typerow }
+
+-- **Redeclare** (parameter, code 0 to 70); "redeclare 5, then 12".
 unfoldable pub redeclared : Machine → ℕ → ℕ → Change
 redeclared m p code =
     settled m
     (firstFailing ((5, ltb p (length (m .params))) ∷ (12, leb code 70) ∷ []))
-    (record { types = m .types; params = set (m .params) p (record { qualifier = code; typerow = paramAt m p .typerow }); terms = m .terms })
+    (record { types = m .types; params = set (m .params) p (withQualifier code (paramAt m p)); terms = m .terms })
 
 -- **Take-back**: "drops the last term row"; 9 with no term row.
 unfoldable pub takenBack : Machine → Change

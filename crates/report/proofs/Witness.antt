@@ -9,7 +9,7 @@ use lib.Dec.{ltb, eqb}
 use lib.ListN.{length, getD, replicate, length-replicate}
 use borrow.Author.Tests.{ne-eqb, eq-eqb}
 use Rattle.model.specs.Lists.{anyOf, contains}
-use Rattle.model.specs.Machine.{Machine}
+use Rattle.model.specs.Machine.{Machine, noParam}
 use Rattle.model.specs.Inference.{codes}
 use Rattle.model.specs.declared.TypeForm.the-variants.{Int, Arrow}
 use Rattle.model.specs.declared.TypeRow.{TypeRow}
@@ -53,7 +53,7 @@ some-named (suc n) listed c zero j below e =
 some-named (suc n) listed c (suc k) j below e =
     rw (one-row (listed 0) j c, ne-eqb j c (λ e′. omega arith), and-false (listed 0)) (some-named n (λ i. listed (suc i)) (suc c) k j (omega arith) (omega arith))
 
-no-param : (j p : ℕ) → 0 < j → anyOf (λ (param : Param). eqb j (param .qualifier)) (replicate p (record { qualifier = 0; typerow = 0 })) ≡ false
+no-param : (j p : ℕ) → 0 < j → anyOf (λ (param : Param). eqb j (param .qualifier)) (replicate p noParam) ≡ false
 no-param j zero h = refl
 no-param j (suc p) h = rw (ne-eqb j 0 (λ e. omega arith)) (no-param j p h)
 
@@ -64,14 +64,14 @@ module _ (c : Codes) (params rows : ℕ) where
   pub witness : Machine
   witness = record {
     types = naming 64 listed 7;
-    params = replicate params (record { qualifier = 0; typerow = 0 });
+    params = replicate params noParam;
     terms = replicate rows (record { term = Num 0 });
   }
 
   pub matching : Matches witness c params rows
   unfolding witness
   matching = record {
-    params-counted = length-replicate params (record { qualifier = 0; typerow = 0 });
+    params-counted = length-replicate params noParam;
     rows-counted = length-replicate rows (record { term = Num 0 });
     listed = λ k h. sym (rw (some-named 64 listed 7 k (k + 7) h refl, no-param (k + 7) params (omega arith)) (or-false (listed k)));
   }

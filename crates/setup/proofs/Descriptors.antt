@@ -6,7 +6,7 @@ use mathlib.Core.Path.{_≡_, refl, sym, ap, subst, _∙_}
 use lib.ListN.{length, take, length-take}
 use lib.Seq.{getD-take}
 use borrow.Author.Count.{below-more}
-use Rattle.model.specs.Machine.{Machine, typeAt, formIn}
+use Rattle.model.specs.Machine.{Machine, noTypeRow, typeAt, formIn}
 use Rattle.model.specs.WellFormed.{WellFormed, TypeStands, TermStands}
 use Rattle.model.specs.declared.TypeForm.{TypeForm}
 use Rattle.model.specs.declared.TypeForm.the-variants.{Int, Any, Arrow}
@@ -72,7 +72,7 @@ module _ (m : Machine) (types : List TypeRow) (count : ℕ) (wf : WellFormed m) 
   type-count = ap length same ∙ rw length-take (omega arith)
 
   form-same : (x : ℕ) → x < count → typeAt m x ≡ formIn types x
-  form-same x h = ap (λ (rows : List TypeRow). formIn rows x) same ∙ ap (λ (row : TypeRow). row .form) (getD-take count types x (record { form = Int }) h)
+  form-same x h = ap (λ (rows : List TypeRow). formIn rows x) same ∙ ap (λ (row : TypeRow). row .form) (getD-take count types x noTypeRow h)
 
   pub forms-stand : FormsStand types count
   forms-stand x h = subst (TypeStands x) (form-same x h) (wf .types-stand x (omega (arith, type-count)))

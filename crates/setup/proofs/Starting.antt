@@ -10,8 +10,7 @@ use lib.Seq.{getD-set-same, getD-set-other, getD-take}
 use borrow.Author.Count.{below-none, below-more}
 use borrow.Author.Tests.{lt-ltb, le-ltb, ltb-true, ltb-false}
 use Rattle.forest.proofs.Links.{by-eq}
-use Rattle.model.specs.Machine.{Machine, formIn, paramIn}
-use Rattle.model.specs.declared.TypeForm.the-variants.{Int}
+use Rattle.model.specs.Machine.{Machine, noTypeRow, noParam, formIn, paramIn}
 use Rattle.model.specs.declared.TypeRow.{TypeRow}
 use Rattle.model.specs.declared.Param.{Param}
 use Rattle.qualifiers.specs.Classes.{boundAt}
@@ -59,14 +58,14 @@ module _ (f : ℕ → ℕ) (places : ℕ) where
       }
 
 -- A number of each parameter, 0 where none stands, from an array of them.
-pub params-hold : (f : Param → ℕ) (params : List Param) (count : ℕ) (l : List ℕ) → f (record { qualifier = 0; typerow = 0 }) ≡ 0 → FirstHold (λ p. f (paramIn params p)) 64 count l →
+pub params-hold : (f : Param → ℕ) (params : List Param) (count : ℕ) (l : List ℕ) → f noParam ≡ 0 → FirstHold (λ p. f (paramIn params p)) 64 count l →
     (p : ℕ) → p < 64 → getD l p 0 ≡ f (paramIn (take count params) p)
 params-hold f params count l none hold p below = hold .at p below ∙ go (ltb p count) refl
   where
     go : (t : Bool) → ltb p count ≡ t → cond t (f (paramIn params p)) 0 ≡ f (paramIn (take count params) p)
-    go true e = ap f (sym (getD-take count params p (record { qualifier = 0; typerow = 0 }) (ltb-true p count e)))
+    go true e = ap f (sym (getD-take count params p noParam (ltb-true p count e)))
     go false e =
-        sym (ap f (List·getD-eq-default (take count params) (record { qualifier = 0; typerow = 0 }) {n = p} (omega (arith, length-take count params, ltb-false p count e))) ∙ none)
+        sym (ap f (List·getD-eq-default (take count params) noParam {n = p} (omega (arith, length-take count params, ltb-false p count e))) ∙ none)
 
 module _ (types : List TypeRow) (count : ℕ) {u k p b : List ℕ} where
   pub started :
@@ -89,5 +88,5 @@ module _ (types : List TypeRow) (count : ℕ) {u k p b : List ℕ} where
         where
           go : (t : Bool) → ltb x count ≡ t → cond (ltb x count) (formKind x (formIn types x)) 0 ≡ startKind m x
           go true w =
-              rw (counted, w, e) (ap (λ (row : TypeRow). formKind x (row .form)) (sym (getD-take count types x (record { form = Int }) (ltb-true x count w))))
+              rw (counted, w, e) (ap (λ (row : TypeRow). formKind x (row .form)) (sym (getD-take count types x noTypeRow (ltb-true x count w))))
           go false w = rw (counted, w) refl

@@ -6,7 +6,7 @@ use mathlib.Core.List.{List}
 use mathlib.Core.Path.{_≡_, refl, sym, ap, subst, subst₂}
 use lib.ListN.{length, take, length-take, List·getD-eq-default}
 use lib.Seq.{getD-take}
-use Rattle.model.specs.Machine.{Machine, paramAt, termAt}
+use Rattle.model.specs.Machine.{Machine, noParam, noTermRow, paramAt, termAt}
 use Rattle.model.specs.WellFormed.{WellFormed, TermStands}
 use Rattle.model.specs.Typing.{Typable}
 use Rattle.model.specs.Strength.{whole, six}
@@ -40,7 +40,7 @@ rows-of types typecount params paramcount terms termcount rows wf size few most 
       noted = noted;
       same-term = λ i below. (
         rw (length-take termcount terms) (omega arith),
-        ap (λ (row : TermRow). row .term) (getD-take termcount terms i (record { term = Lam 0 0 }) (omega arith)),
+        ap (λ (row : TermRow). row .term) (getD-take termcount terms i noTermRow (omega arith)),
       );
     }
 
@@ -61,7 +61,7 @@ module _ {m : Machine} (wf : WellFormed m) where
       go : Dec (p < length (m .params)) → (paramAt m p .qualifier < 71) × (paramAt m p .typerow < 64)
       go (yes h) = (omega (arith, wf .params-stand p h .0), omega (arith, wf .params-stand p h .1, wf .types-fit))
       go (no n) =
-          let none = List·getD-eq-default (m .params) (record { qualifier = 0; typerow = 0 }) {n = p} (omega arith) in
+          let none = List·getD-eq-default (m .params) noParam {n = p} (omega arith) in
           (omega (arith, ap (λ (d : Param). d .qualifier) none), omega (arith, ap (λ (d : Param). d .typerow) none))
 
   row-stands : (i : ℕ) → i < length (m .terms) → RowStands i (termAt m i) (rowQualifier m i) (rowTyperow m i)

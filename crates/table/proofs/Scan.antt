@@ -6,21 +6,22 @@ use mathlib.Core.Path.{_≡_, sym, _∙_}
 use lib.ListN.{length, drop, getD, drop-of-length-le}
 use lib.Seq.{drop-cons}
 use Rattle.model.specs.Lists.{anyOf}
+use Rattle.model.specs.Machine.{noTermRow}
 use Rattle.model.specs.declared.TermRow.{TermRow}
 use Rattle.table.specs.Lists.{lists}
 use Rattle.table.specs.declared.Table.{Table}
-use Rattle.table.proofs.Entries.{no-row, row-at}
+use Rattle.table.proofs.Entries.{row-at}
 
 module _ (test : TermRow → Bool) (t : Table) (i rows : ℕ) (count : rows ≡ length (lists t .terms)) (left : anyOf test (lists t .terms) ≡ anyOf test (drop i (lists t .terms))) where
-  scan-row : i < rows → anyOf test (lists t .terms) ≡ (test (getD (t .terms) i no-row) || anyOf test (drop (i + 1) (lists t .terms)))
+  scan-row : i < rows → anyOf test (lists t .terms) ≡ (test (getD (t .terms) i noTermRow) || anyOf test (drop (i + 1) (lists t .terms)))
   scan-row h =
       let within : i < length (lists t .terms) = rw count at h in
-      left ∙ rw (add-one, drop-cons (lists t .terms) i no-row, row-at t i within)
+      left ∙ rw (add-one, drop-cons (lists t .terms) i noTermRow, row-at t i within)
 
-  pub scan-found : (found : Bool) → i < rows → found ≡ test (getD (t .terms) i no-row) → found ≡ true → true ≡ anyOf test (lists t .terms)
+  pub scan-found : (found : Bool) → i < rows → found ≡ test (getD (t .terms) i noTermRow) → found ≡ true → true ≡ anyOf test (lists t .terms)
   scan-found found h e f = sym (rw (sym e ∙ f) at (scan-row h))
 
-  pub scan-passed : (found : Bool) → i < rows → found ≡ test (getD (t .terms) i no-row) → found ≡ false → anyOf test (lists t .terms) ≡ anyOf test (drop (i + 1) (lists t .terms))
+  pub scan-passed : (found : Bool) → i < rows → found ≡ test (getD (t .terms) i noTermRow) → found ≡ false → anyOf test (lists t .terms) ≡ anyOf test (drop (i + 1) (lists t .terms))
   scan-passed found h e f = rw (sym e ∙ f) at (scan-row h)
 
   pub scan-over : rows ≤ i → false ≡ anyOf test (lists t .terms)

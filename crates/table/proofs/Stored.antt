@@ -9,7 +9,7 @@ use lib.Dec.{eqb, ltb, leb}
 use lib.ListN.{length, take, set, getD, length-take}
 use lib.Seq.{take-suc-set, take-set-lt, take-take, getD-take}
 use borrow.Author.Tests.{ne-eqb, lt-ltb, le-ltb, le-leb, lt-leb, eqb-true, ltb-true}
-use Rattle.model.specs.Machine.{Machine, settled, firstFailing, typeRefusal, paramRefusal, termRefusal, entered, redeclared, takenBack}
+use Rattle.model.specs.Machine.{Machine, noParam, withQualifier, settled, firstFailing, typeRefusal, paramRefusal, termRefusal, entered, redeclared, takenBack}
 use Rattle.model.specs.declared.TypeForm.{TypeForm}
 use Rattle.model.specs.declared.TypeRow.{TypeRow}
 use Rattle.model.specs.declared.Param.{Param}
@@ -20,7 +20,6 @@ use Rattle.model.proofs.Checks.{passed}
 use Rattle.table.specs.Lists.{lists, change}
 use Rattle.table.specs.declared.Table.{Table}
 use Rattle.table.specs.declared.Answered.{Answered}
-use Rattle.table.proofs.Entries.{no-param}
 use Rattle.table.proofs.Counts.{Owned, types-whole, params-whole, terms-whole}
 
 -- A table with one array and its count changed, and an accepted call's answer.
@@ -116,7 +115,7 @@ module _ (t : Table) (p code n : ℕ) (count : n ≡ length (lists t .params)) w
   redeclare-passes h g = simp (← count, lt-ltb p n h, le-leb code 70 g)
 
   pub redeclare-stored : p < n → code ≤ 70 →
-      change (accepting (with-params t (set (t .params) p (record { qualifier = code; typerow = getD (t .params) p no-param .typerow })) (t .paramcount))) ≡ redeclared (lists t) p code
+      change (accepting (with-params t (set (t .params) p (withQualifier code (getD (t .params) p noParam))) (t .paramcount))) ≡ redeclared (lists t) p code
   unfolding redeclared lists
   redeclare-stored h g =
       let below : p < t .paramcount = omega (arith, simp length-take at count) in

@@ -12,7 +12,7 @@ use borrow.Author.Tests.{eqb-true, eq-eqb, ltb-true, leb-true, not-true}
 use Rattle.scheme.proofs.Every.{and-left, and-right}
 use Rattle.model.specs.Lists.{anyOf, allOf, contains}
 use Rattle.model.specs.Line.{lineOf}
-use Rattle.model.specs.Machine.{Machine, freshMachine, paramAt, termAt, children, named, binds, parts, used, bound, twice, typeRefusal, paramRefusal, termRefusal, entered, added, redeclared, takenBack}
+use Rattle.model.specs.Machine.{Machine, freshMachine, noTypeRow, noParam, noTermRow, withQualifier, paramAt, termAt, children, named, binds, parts, used, bound, twice, typeRefusal, paramRefusal, termRefusal, entered, added, redeclared, takenBack}
 use Rattle.model.specs.WellFormed.{TypeStands, ParamStands, TermStands, WellFormed}
 use Rattle.model.specs.Session.{Call, Outcome, Answers, adds, redeclares, takes-back, infers}
 use Rattle.model.specs.declared.TypeForm.{TypeForm}
@@ -25,7 +25,7 @@ use Rattle.model.specs.declared.Line.{Line}
 use Rattle.model.specs.declared.Line.the-variants.{TypeLine, ParamLine, TermLine, NoForm}
 use Rattle.model.proofs.Checks.{passed, settled-keeps}
 use Rattle.table.proofs.Tests.{or-cases, or-neither, any-at}
-use Rattle.table.proofs.Entries.{taken, no-row}
+use Rattle.table.proofs.Entries.{taken}
 use Rattle.table.proofs.Codes.{FormCodes, TermCodes, LineCodes, line-codes}
 
 none-below-zero : {A : Type 0} (n : ℕ) → n < 0 → A
@@ -134,7 +134,7 @@ term-stands-more (Enc s n) params i h = h
 -- No two rows name one number: their children, or the parameters that they bind.
 abbrev Apart : (Term → List ℕ) → List TermRow → Type 0
 Apart names rows = (i j c : ℕ) → i < length rows → j < length rows →
-    contains c (names (getD rows i no-row .term)) ≡ true → contains c (names (getD rows j no-row .term)) ≡ true → i ≡ j
+    contains c (names (getD rows i noTermRow .term)) ≡ true → contains c (names (getD rows j noTermRow .term)) ≡ true → i ≡ j
 
 -- One row more.
 abbrev with-row : List TermRow → Term → List TermRow
@@ -143,35 +143,35 @@ with-row rows term = rows ++ (record { term = term } ∷ [])
 module _ (names : Term → List ℕ) (rows : List TermRow) (apart : Apart names rows) where
   apart-taken : (k : ℕ) → Apart names (take k rows)
   apart-taken k i j c h l e f =
-      let at-i = taken rows k i no-row h in
-      let at-j = taken rows k j no-row l in
+      let at-i = taken rows k i noTermRow h in
+      let at-j = taken rows k j noTermRow l in
       apart i j c (at-i .0) (at-j .0) (rw (at-i .1) at e) (rw (at-j .1) at f)
 
   -- A number of the new row is one that no row named.
   module _ (term : Term) (free : anyOf (λ c. anyOf (λ row. contains c (names (row .term))) rows) (names term) ≡ false) where
-    not-named : (i c : ℕ) → i < length rows → contains c (names (getD rows i no-row .term)) ≡ true → contains c (names term) ≡ true → ⊥
+    not-named : (i c : ℕ) → i < length rows → contains c (names (getD rows i noTermRow .term)) ≡ true → contains c (names term) ≡ true → ⊥
     not-named i c h e f =
-        let some = any-at (λ row. contains c (names (row .term))) rows i no-row h e in
+        let some = any-at (λ row. contains c (names (row .term))) rows i noTermRow h e in
         let none = none-of (λ c. anyOf (λ row. contains c (names (row .term))) rows) (names term) c free f in
         let z : _≡_ {A = ℕ} 0 1 = cc (sym some ∙ none) in
         omega arith
 
     -- the new row beside any, and an old one beside any
-    new-apart : (c : ℕ) → contains c (names term) ≡ true → (j : ℕ) → j < length (with-row rows term) → contains c (names (getD (with-row rows term) j no-row .term)) ≡ true → length rows ≡ j
+    new-apart : (c : ℕ) → contains c (names term) ≡ true → (j : ℕ) → j < length (with-row rows term) → contains c (names (getD (with-row rows term) j noTermRow .term)) ≡ true → length rows ≡ j
     new-apart c e =
-        each-appended (λ j row. contains c (names (row .term)) ≡ true → length rows ≡ j) rows (record { term = term }) no-row
+        each-appended (λ j row. contains c (names (row .term)) ≡ true → length rows ≡ j) rows (record { term = term }) noTermRow
         (λ j h f. absurd (not-named j c h f e))
         (λ f. refl)
 
-    old-apart : (i c : ℕ) → i < length rows → contains c (names (getD rows i no-row .term)) ≡ true → (j : ℕ) → j < length (with-row rows term) → contains c (names (getD (with-row rows term) j no-row .term)) ≡ true → i ≡ j
+    old-apart : (i c : ℕ) → i < length rows → contains c (names (getD rows i noTermRow .term)) ≡ true → (j : ℕ) → j < length (with-row rows term) → contains c (names (getD (with-row rows term) j noTermRow .term)) ≡ true → i ≡ j
     old-apart i c h e =
-        each-appended (λ j row. contains c (names (row .term)) ≡ true → i ≡ j) rows (record { term = term }) no-row
+        each-appended (λ j row. contains c (names (row .term)) ≡ true → i ≡ j) rows (record { term = term }) noTermRow
         (λ j k f. apart i j c h k e f)
         (λ f. absurd (not-named i c h e f))
 
     apart-appended : Apart names (with-row rows term)
     apart-appended i j c h k e f =
-        each-appended (λ i row. contains c (names (row .term)) ≡ true → i ≡ j) rows (record { term = term }) no-row
+        each-appended (λ i row. contains c (names (row .term)) ≡ true → i ≡ j) rows (record { term = term }) noTermRow
         (λ i h e. old-apart i c h e j k f)
         (λ e. new-apart c e j k f)
         i h e
@@ -189,7 +189,7 @@ module _ (m : Machine) (w : WellFormed m) where
         types-fit = simp length-append (omega (arith, p .room));
         params-fit = w .params-fit;
         terms-fit = w .terms-fit;
-        types-stand = each-appended (λ t row. TypeStands t (row .form)) (m .types) (record { form = form }) (record { form = Int }) (w .types-stand) (rw (← p .next) (type-stands form i codes (p .below)));
+        types-stand = each-appended (λ t row. TypeStands t (row .form)) (m .types) (record { form = form }) noTypeRow (w .types-stand) (rw (← p .next) (type-stands form i codes (p .below)));
         params-stand = λ q h. (w .params-stand q h .0, simp length-append (omega (arith, w .params-stand q h .1)));
         terms-stand = w .terms-stand;
         one-parent = w .one-parent;
@@ -204,7 +204,7 @@ module _ (m : Machine) (w : WellFormed m) where
         params-fit = simp length-append (omega (arith, p .room));
         terms-fit = w .terms-fit;
         types-stand = w .types-stand;
-        params-stand = each-appended (λ q param. ParamStands (length (m .types)) param) (m .params) param (record { qualifier = 0; typerow = 0 }) (w .params-stand) (code, p .declared);
+        params-stand = each-appended (λ q param. ParamStands (length (m .types)) param) (m .params) param noParam (w .params-stand) (code, p .declared);
         terms-stand = λ i h. simp length-append (term-stands-more (termAt m i) _ i (w .terms-stand i h));
         one-parent = w .one-parent;
         two-children = w .two-children;
@@ -219,9 +219,9 @@ module _ (m : Machine) (w : WellFormed m) where
         terms-fit = simp length-append (omega (arith, p .room));
         types-stand = w .types-stand;
         params-stand = w .params-stand;
-        terms-stand = each-appended (λ j row. TermStands (length (m .params)) j (row .term)) (m .terms) (record { term = term }) no-row (w .terms-stand) (rw (← p .next) (term-stands term _ i codes (p .declared) (p .below)));
+        terms-stand = each-appended (λ j row. TermStands (length (m .params)) j (row .term)) (m .terms) (record { term = term }) noTermRow (w .terms-stand) (rw (← p .next) (term-stands term _ i codes (p .declared) (p .below)));
         one-parent = apart-appended children (m .terms) (w .one-parent) term (not-true _ (and-left _ _ (p .free)));
-        two-children = λ j a b h. each-appended (λ j row. children (row .term) ≡ a ∷ b ∷ [] → a ≡ b → ⊥) (m .terms) (record { term = term }) no-row (λ j h. w .two-children j a b h) (different (children term) a b (and-right (not (anyOf (used (m .terms)) (children term))) _ (p .free))) j h;
+        two-children = λ j a b h. each-appended (λ j row. children (row .term) ≡ a ∷ b ∷ [] → a ≡ b → ⊥) (m .terms) (record { term = term }) noTermRow (λ j h. w .two-children j a b h) (different (children term) a b (and-right (not (anyOf (used (m .terms)) (children term))) _ (p .free))) j h;
         one-binder = apart-appended binds (m .terms) (w .one-binder) term (not-true _ (p .unbound));
       }
 
@@ -233,14 +233,14 @@ module _ (m : Machine) (w : WellFormed m) where
   entered-well-formed NoForm codes = settled-keeps WellFormed m _ _ w (λ e. w)
 
   redeclared-stands : (p code : ℕ) → p < length (m .params) → code ≤ 70 → (q : ℕ) → q < length (m .params) →
-      ParamStands (length (m .types)) (getD (set (m .params) p (record { qualifier = code; typerow = paramAt m p .typerow })) q (record { qualifier = 0; typerow = 0 }))
+      ParamStands (length (m .types)) (getD (set (m .params) p (withQualifier code (paramAt m p))) q noParam)
   redeclared-stands p code h g q l = go (ℕ-discrete q p)
     where
-      go : Dec (q ≡ p) → ParamStands (length (m .types)) (getD (set (m .params) p (record { qualifier = code; typerow = paramAt m p .typerow })) q (record { qualifier = 0; typerow = 0 }))
+      go : Dec (q ≡ p) → ParamStands (length (m .types)) (getD (set (m .params) p (withQualifier code (paramAt m p))) q noParam)
       go (yes e) = rw (e, getD-set-same (m .params) p _ _ h) (g, w .params-stand p h .1)
       go (no e) = rw (getD-set-other (m .params) p q _ _ e) (w .params-stand q l)
 
-  param-redeclared : (p code : ℕ) → p < length (m .params) → code ≤ 70 → WellFormed (record { types = m .types; params = set (m .params) p (record { qualifier = code; typerow = paramAt m p .typerow }); terms = m .terms })
+  param-redeclared : (p code : ℕ) → p < length (m .params) → code ≤ 70 → WellFormed (record { types = m .types; params = set (m .params) p (withQualifier code (paramAt m p)); terms = m .terms })
   param-redeclared p code h g =
       record {
         types-fit = w .types-fit;
@@ -263,9 +263,9 @@ module _ (m : Machine) (w : WellFormed m) where
         terms-fit = simp length-take (omega (arith, w .terms-fit));
         types-stand = w .types-stand;
         params-stand = w .params-stand;
-        terms-stand = λ i h. let at = taken (m .terms) k i no-row h in subst (λ (row : TermRow). TermStands (length (m .params)) i (row .term)) (sym (at .1)) (w .terms-stand i (at .0));
+        terms-stand = λ i h. let at = taken (m .terms) k i noTermRow h in subst (λ (row : TermRow). TermStands (length (m .params)) i (row .term)) (sym (at .1)) (w .terms-stand i (at .0));
         one-parent = apart-taken children (m .terms) (w .one-parent) k;
-        two-children = λ i a b h e. let at = taken (m .terms) k i no-row h in w .two-children i a b (at .0) (ap (λ (row : TermRow). children (row .term)) (sym (at .1)) ∙ e);
+        two-children = λ i a b h e. let at = taken (m .terms) k i noTermRow h in w .two-children i a b (at .0) (ap (λ (row : TermRow). children (row .term)) (sym (at .1)) ∙ e);
         one-binder = apart-taken binds (m .terms) (w .one-binder) k;
       }
 
