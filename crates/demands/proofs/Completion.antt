@@ -4,12 +4,12 @@ use mathlib.Core.List.{List}
 use mathlib.Core.Path.{_≡_, refl, subst}
 use Rattle.model.specs.Machine.{Machine}
 use Rattle.model.specs.Strength.{six}
-use Rattle.model.specs.Inference.{Slot, Listed, typeOf, Shape, ShapeSays, Accepted}
+use Rattle.model.specs.Inference.{Slot, Listed, typeOf, Shape, ShapeSays, GreatestTyping}
 use Rattle.model.specs.Session.{Call, infer, Outcome, Infers, Answers, infers}
 use Rattle.inference.proofs.Corollaries.{reported-greatest}
 use Rattle.demands.specs.Completion.{HasShape, Completes, ReportsTyping}
 
-completes : {m : Machine} {word : Slot → ℕ} {shape : Slot → Shape} → Accepted six m word shape → Completes m word shape
+completes : {m : Machine} {word : Slot → ℕ} {shape : Slot → Shape} → GreatestTyping six m word shape → Completes m word shape
 completes {m} {shape = shape} a =
     record {
       typing = a .together .0;

@@ -10,7 +10,7 @@ use Rattle.model.specs.Machine.{Machine, freshMachine}
 use Rattle.model.specs.Closed.{Closed}
 use Rattle.model.specs.Typing.{Typable}
 use Rattle.model.specs.Strength.{whole, six}
-use Rattle.model.specs.Inference.{Slot, Shape, Refusal, Accepted}
+use Rattle.model.specs.Inference.{Slot, Shape, Refusal, GreatestTyping}
 use Rattle.model.specs.Report.{report}
 use Rattle.model.specs.Session.{Call, add, redeclare, take-back, infer, Outcome, returning, Infers, Answers, adds, redeclares, takes-back, Session}
 use Rattle.model.specs.Text.{linesOf, Prints, Returns}
@@ -108,7 +108,7 @@ pub report-is-greatest : {m : Machine} {buffer : List ℕ} {o : Outcome} → Inf
     × (shape : Slot → Shape)
     × (o .size ≡ length (report m word shape))
     × (o .buffer ≡ report m word shape ++ drop (length (report m word shape)) buffer)
-    × Accepted six m word shape
+    × GreatestTyping six m word shape
 report-is-greatest = reported-greatest
 
 -- What the program prints and what the loader's entry returns are determined by their inputs; a text by its first 25,025 bytes.

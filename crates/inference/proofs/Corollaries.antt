@@ -8,7 +8,7 @@ use Rattle.model.specs.Machine.{Machine}
 use Rattle.model.specs.Closed.{Closed}
 use Rattle.model.specs.Typing.{Typable}
 use Rattle.model.specs.Strength.{whole, six}
-use Rattle.model.specs.Inference.{Slot, Shape, Cause, Refusal, Accepted, Judged, not-closed, not-typable, typed}
+use Rattle.model.specs.Inference.{Slot, Shape, Cause, Refusal, GreatestTyping, Judged, not-closed, not-typable, typed}
 use Rattle.model.specs.Report.{report}
 use Rattle.model.specs.Session.{Outcome, Infers, short, refused, accepted}
 use Rattle.model.proofs.Fewer.{typable-fewer}
@@ -81,7 +81,7 @@ pub reported-greatest : {m : Machine} {buffer : List ℕ} {o : Outcome} → Infe
     × (shape : Slot → Shape)
     × (o .size ≡ length (report m word shape))
     × (o .buffer ≡ report m word shape ++ drop (length (report m word shape)) buffer)
-    × Accepted six m word shape
+    × GreatestTyping six m word shape
 reported-greatest i e =
     let r = reported-judged i e in
     (r .0, r .1, r .2, r .3, judged-accepted (r .4) refl)

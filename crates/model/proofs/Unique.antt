@@ -10,7 +10,7 @@ use Rattle.model.specs.Machine.{Machine, added, redeclared, takenBack}
 use Rattle.model.specs.Closed.{Closed}
 use Rattle.model.specs.Typing.{Ty, Assignment, Typing, Typable}
 use Rattle.model.specs.Strength.{Schemes, whole, unordered, erased, six}
-use Rattle.model.specs.Inference.{Cause, shapes, qualifiers, bounds, Refusal, Slot, variable, param, row, Listed, qualifierOf, typeOf, IsInt, is-int, IsArrow, is-arrow, Shape, Types, ShapeSays, Accepted, Judged, not-closed, not-typable, typed, mentions}
+use Rattle.model.specs.Inference.{Cause, shapes, qualifiers, bounds, Refusal, Slot, variable, param, row, Listed, qualifierOf, typeOf, IsInt, is-int, IsArrow, is-arrow, Shape, Types, ShapeSays, GreatestTyping, Judged, not-closed, not-typable, typed, mentions}
 use Rattle.model.specs.Report.{report, lines, variableLine, paramLine, rowLine}
 use Rattle.model.proofs.Fewer.{typable-fewer}
 use Rattle.model.proofs.Weaker.{weaker-rules, whole-unordered, unordered-erased}
@@ -48,8 +48,8 @@ module _ (S : Schemes) (m : Machine) where
       (cause-same S m (k + 1) (r .cause) (subst (λ (j : ℕ). Cause S m (j + 1) n′) (sym e) (r′ .cause)), e)
 
   -- An accepted program has a typing, so no row of it is refused.
-  accepted-not-refused : {word : Slot → ℕ} {shape : Slot → Shape} {n k : ℕ} → Accepted S m word shape → Refusal S m n k → ⊥
-  accepted-not-refused a r = r .none (typable-fewer {k = length (m .terms)} (omega (arith, r .in-list)) (a .together .0, a .together .1))
+  typed-not-refused : {word : Slot → ℕ} {shape : Slot → Shape} {n k : ℕ} → GreatestTyping S m word shape → Refusal S m n k → ⊥
+  typed-not-refused a r = r .none (typable-fewer {k = length (m .terms)} (omega (arith, r .in-list)) (a .together .0, a .together .1))
 
 arrow-only : {Q : Type 0} → Ty Q → Type 0
 arrow-only Ty.int = ⊥
@@ -78,7 +78,7 @@ module _ (S : Schemes) (m : Machine) (x : Slot) where
   shape-same Shape.any Shape.arrow (s, t) h h′ = absurd (int-is-no-arrow _ (h .0 .2) (h′ (h .0 .0) (h .0 .1)))
   shape-same Shape.any Shape.any (s, t) h h′ = refl
 
-module _ (S : Schemes) (lawful : Lawful S) (m : Machine) {word word′ : Slot → ℕ} {shape shape′ : Slot → Shape} (a : Accepted S m word shape) (a′ : Accepted S m word′ shape′) where
+module _ (S : Schemes) (lawful : Lawful S) (m : Machine) {word word′ : Slot → ℕ} {shape shape′ : Slot → Shape} (a : GreatestTyping S m word shape) (a′ : GreatestTyping S m word′ shape′) where
   -- The word of one is a typing's, so the other is above it.
   below : (x : Slot) → Listed S m x → S .AtOrBelow (S .word (word′ x)) (S .word (word x))
   below x l = subst (λ (q : S .Q). S .AtOrBelow q (S .word (word x))) (a′ .together .2 x l) (a .greatest (a′ .together .0) (a′ .together .1) x l)
@@ -100,9 +100,9 @@ judged-same S m (not-closed no-closed) (not-typable closed r) = absurd (no-close
 judged-same S m (not-closed no-closed) (typed closed a) = absurd (no-closed closed)
 judged-same S m (not-typable closed r) (not-closed no-closed) = absurd (no-closed closed)
 judged-same S m (not-typable closed r) (not-typable closed′ r′) = refusal-same S m r r′
-judged-same S m (not-typable closed r) (typed closed′ a) = absurd (accepted-not-refused S m a r)
+judged-same S m (not-typable closed r) (typed closed′ a) = absurd (typed-not-refused S m a r)
 judged-same S m (typed closed a) (not-closed no-closed) = absurd (no-closed closed)
-judged-same S m (typed closed a) (not-typable closed′ r) = absurd (accepted-not-refused S m a r)
+judged-same S m (typed closed a) (not-typable closed′ r) = absurd (typed-not-refused S m a r)
 judged-same S m (typed closed a) (typed closed′ a′) = (refl, refl)
 
 -- No cause has the number 0.
@@ -112,7 +112,7 @@ cause-number (qualifiers some-erased no-unordered) e = omega arith
 cause-number (bounds some) e = omega arith
 
 -- The number 0 is of accepted programs alone.
-pub judged-accepted : {S : Schemes} {m : Machine} {n k : ℕ} {word : Slot → ℕ} {shape : Slot → Shape} → Judged S m n k word shape → n ≡ 0 → Accepted S m word shape
+pub judged-accepted : {S : Schemes} {m : Machine} {n k : ℕ} {word : Slot → ℕ} {shape : Slot → Shape} → Judged S m n k word shape → n ≡ 0 → GreatestTyping S m word shape
 judged-accepted (not-closed no-closed) e = let z : ⊥ = omega arith in absurd z
 judged-accepted (not-typable closed r) e = absurd (cause-number (r .cause) e)
 judged-accepted (typed closed a) e = a

@@ -80,8 +80,8 @@ ShapeSays S m x Shape.arrow = (s : Assignment (S .Q)) → Types S m s → IsArro
 ShapeSays S m x Shape.any =
     ((s : Assignment (S .Q)) × Types S m s × IsInt (typeOf s x)) × ((s : Assignment (S .Q)) × Types S m s × IsArrow (typeOf s x))
 
--- The words and shapes of an accepted program.
-pub record Accepted (S : Schemes) (m : Machine) (word : Slot → ℕ) (shape : Slot → Shape) : Type 0 where
+-- The words and shapes that the typings of a program give: "the greatest qualifier that a typing of the program gives".
+pub record GreatestTyping (S : Schemes) (m : Machine) (word : Slot → ℕ) (shape : Slot → Shape) : Type 0 where
   -- each word is one of the qualifiers' words
   pub worded : (x : Slot) → Listed S m x → word x < S .words
   -- "every typing has there one at or below it"
@@ -97,4 +97,4 @@ pub record Accepted (S : Schemes) (m : Machine) (word : Slot → ℕ) (shape : S
 pub data Judged (S : Schemes) (m : Machine) : ℕ → ℕ → (Slot → ℕ) → (Slot → Shape) → Type 0 where
   not-closed : {word : Slot → ℕ} {shape : Slot → Shape} → ¬ Closed m → Judged S m 10 0 word shape
   not-typable : {number k : ℕ} {word : Slot → ℕ} {shape : Slot → Shape} → Closed m → Refusal S m number k → Judged S m number k word shape
-  typed : {word : Slot → ℕ} {shape : Slot → Shape} → Closed m → Accepted S m word shape → Judged S m 0 0 word shape
+  typed : {word : Slot → ℕ} {shape : Slot → Shape} → Closed m → GreatestTyping S m word shape → Judged S m 0 0 word shape

@@ -7,12 +7,12 @@ use lib.ListN.{length, take, length-take}
 use Rattle.model.specs.Machine.{Machine}
 use Rattle.model.specs.WellFormed.{WellFormed}
 use Rattle.model.specs.Strength.{six}
-use Rattle.model.specs.Inference.{Slot, Listed, Shape, ShapeSays, Accepted}
+use Rattle.model.specs.Inference.{Slot, Listed, Shape, ShapeSays, GreatestTyping}
 use Rattle.model.specs.declared.TermRow.{TermRow}
 use Rattle.graph.specs.Types.{kindAt, Parts}
 use Rattle.qualifiers.specs.Classes.{boundAt, Greatest}
 use Rattle.occurs.specs.Kinds.{Settled}
-use Rattle.readings.proofs.Accepted.{solved-accepted}
+use Rattle.readings.proofs.Greatest.{solved-greatest}
 use Rattle.report.specs.Codes as Codes
 use Rattle.slots.specs.Filled.{Filled}
 use Rattle.solver.specs.State.{After}
@@ -21,11 +21,11 @@ use Rattle.solver.specs.declared.Answer.{Answer}
 use Rattle.solver.specs.declared.Answer.the-variants.{Placed, Refused}
 use Rattle.solver.proofs.Solving.{state-solved}
 
--- What is accepted is accepted in other words for the same slots.
-accepted-as : (m : Machine) {word word′ : Slot → ℕ} {shape shape′ : Slot → Shape} →
+-- What the typings give is the same in other words for the same slots.
+greatest-as : (m : Machine) {word word′ : Slot → ℕ} {shape shape′ : Slot → Shape} →
     ((x : Slot) → Listed six m x → word′ x ≡ word x) → ((x : Slot) → Listed six m x → shape′ x ≡ shape x) →
-    Accepted six m word shape → Accepted six m word′ shape′
-accepted-as m same-word same-shape a =
+    GreatestTyping six m word shape → GreatestTyping six m word′ shape′
+greatest-as m same-word same-shape a =
     record {
       worded = λ x l. rw (same-word x l) (a .worded x l);
       greatest = λ s typing x l. rw (same-word x l) (a .greatest s typing x l);
@@ -47,7 +47,7 @@ pub placed : {m : Machine} {kids u k p b : List ℕ} (b′ k′ : List ℕ) {row
 placed {m} {kids} {u} {k} {p} {b} b′ k′ wf parts whole ended g settled filled =
     let solved =
     state-solved m kids u k p b k′ (boundAt b′) parts (subst (λ (n : ℕ). After m kids u k p b n) whole (ended .after)) (ended .finite) g settled in
-    (accepted-as m (filled .words) (filled .shapes) (solved-accepted m wf (boundAt b′) (kindAt k′) solved), filled .matches)
+    (greatest-as m (filled .words) (filled .shapes) (solved-greatest m wf (boundAt b′) (kindAt k′) solved), filled .matches)
 
 pub refused : (m : Machine) (codes : Codes.Codes) (r : Answer) → Refuses m r → Solves m codes r
 refused m codes Placed none = absurd none

@@ -9,7 +9,7 @@ use Rattle.model.specs.Machine.{Machine, termIn, termAt}
 use Rattle.model.specs.WellFormed.{WellFormed}
 use Rattle.model.specs.Typing.{Ty, Typable}
 use Rattle.model.specs.Strength.{whole, six}
-use Rattle.model.specs.Inference.{Cause, Refusal, Accepted}
+use Rattle.model.specs.Inference.{Cause, Refusal, GreatestTyping}
 use Rattle.model.specs.declared.TermRow.{TermRow}
 use Rattle.graph.specs.Types.{Reads}
 use Rattle.graph.specs.Search.{Finite}
@@ -75,5 +75,5 @@ Refuses m (Refused number row) = Refusal six m number row
 
 -- The program is placed, with its words and shapes in the codes; or refused at the least row.
 abbrev pub Solves : Machine → Codes → Answer → Type 0
-Solves m codes Placed = Accepted six m (wordOf codes) (shapeOf codes) × Matches m codes (length (m .params)) (length (m .terms))
+Solves m codes Placed = GreatestTyping six m (wordOf codes) (shapeOf codes) × Matches m codes (length (m .params)) (length (m .terms))
 Solves m codes (Refused number row) = Refusal six m number row

@@ -1,6 +1,6 @@
 pub mod Closed
 pub mod Typings
-pub mod Accepted
+pub mod Greatest
 pub mod Refused
 pub mod Printed
 pub mod Machines

@@ -20,7 +20,7 @@ use Rattle.model.specs.Text.{Load, Prints, load, loadFrom, loaded, refused-infe
 use Rattle.starred.specs.Starred.{Example, textOf, PrintsOutput}
 use Rattle.starred.proofs.Closed.{closed, closed-sound}
 use Rattle.starred.proofs.Typings.{Equations, equations-typing, typing-equations, uniform}
-use Rattle.starred.proofs.Accepted.{EverySlot, words, shapes, within, accepted}
+use Rattle.starred.proofs.Greatest.{EverySlot, words, shapes, within, greatest-typing}
 use Rattle.starred.proofs.Refused.{refusal-number}
 
 -- What the adds of a program come to, with all that it rests on open to computing.
@@ -58,7 +58,7 @@ module _ (example : Example) (m : Machine) (load-is : loadOf (example .program) 
   accepted-prints q t t′ typed-first typed-second all-within report-is =
       let rows : ℕ = length (m .terms) in
       let answer =
-      accepted m (first m q t t′) (second m q t t′)
+      greatest-typing m (first m q t t′) (second m q t t′)
       (equations-typing (whole six) m rows _ typed-first)
       (equations-typing (whole six) m rows _ typed-second)
       (λ s typing. all-within s (typing-equations (whole six) m rows s (omega arith) typing)) in

@@ -1,4 +1,4 @@
--- Accepted programs: the first of two typings has the words and takes ANY as INT, the second takes ANY as an arrow, and every typing passes a test against both.
+-- The words and shapes of a program from two typings: the first has the words and takes ANY as INT, the second takes ANY as an arrow, and every typing passes a test against both.
 use Prim.Native.Nat.{ℕ, _+_}
 use native.Mathlib.Omega.{arith}
 use mathlib.Core.Bool.{Bool, true, false, _&&_, false≢true}
@@ -11,7 +11,7 @@ use Rattle.scheme.proofs.Every.{and-left, and-right, implies, implies-true, eve
 use Rattle.model.specs.Machine.{Machine}
 use Rattle.model.specs.Typing.{Ty, int, arrow, Assignment}
 use Rattle.model.specs.Strength.{six}
-use Rattle.model.specs.Inference.{Slot, variable, param, row, mentions, Listed, qualifierOf, typeOf, IsInt, is-int, IsArrow, is-arrow, Shape, Types, ShapeSays, Accepted}
+use Rattle.model.specs.Inference.{Slot, variable, param, row, mentions, Listed, qualifierOf, typeOf, IsInt, is-int, IsArrow, is-arrow, Shape, Types, ShapeSays, GreatestTyping}
 
 -- The test passes at every slot of the report: at the variables, the parameters and the rows.
 abbrev pub EverySlot : Machine → (Slot → Bool) → Type 0
@@ -89,8 +89,8 @@ module _ (m : Machine) (first second : Assignment Qualifier) where
       any-int int σ e any = subst IsInt (sym e) is-int
       any-int (arrow q t q′ t′) σ e any = let z : _≡_ {A = ℕ} 0 1 = cc in absurd (omega arith)
 
-    pub accepted : Accepted six m words shapes
-    accepted =
+    pub greatest-typing : GreatestTyping six m words shapes
+    greatest-typing =
         record {
           worded = λ x l. code-below (qualifierOf first x);
           greatest = λ s typing x l. below x l s typing;

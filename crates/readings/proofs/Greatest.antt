@@ -1,4 +1,4 @@
--- A solved program is accepted: its words are the greatest, attained together, and its shapes are as document 01 says.
+-- The words of a solved program are the greatest, attained together, and its shapes are as document 01 says.
 use Prim.Native.Nat.{ℕ, zero, suc, _+_, _-_, _<_, _≤_}
 use native.Mathlib.Omega.{arith}
 use mathlib.Core.Bool.{Bool, true, false, cond}
@@ -13,7 +13,7 @@ use Rattle.model.specs.Machine.{Machine, paramAt}
 use Rattle.model.specs.WellFormed.{WellFormed}
 use Rattle.model.specs.Typing.{Ty, int, arrow, Assignment, Typing, meaning}
 use Rattle.model.specs.Strength.{whole, six}
-use Rattle.model.specs.Inference.{Slot, variable, param, row, Listed, qualifierOf, typeOf, IsInt, is-int, IsArrow, is-arrow, Shape, Types, ShapeSays, Accepted}
+use Rattle.model.specs.Inference.{Slot, variable, param, row, Listed, qualifierOf, typeOf, IsInt, is-int, IsArrow, is-arrow, Shape, Types, ShapeSays, GreatestTyping}
 use Rattle.model.proofs.Weaker.{mapType, mapAssignment}
 use Rattle.readings.specs.Nodes.{assignment, wordOf, shapeOf, shapesOf, Solution, Solved}
 use Rattle.readings.proofs.Typable.{nodeType, type-node, row-type-node, nodeQualifier, code-node, row-qualifier-node}
@@ -132,8 +132,8 @@ module _ (m : Machine) (wf : WellFormed m) (w kind : ℕ → ℕ) (solved : Solv
       subst IsInt (sym (ap (mapType qualifier) (solved .choice int .2 _ (omega (arith, wf .params-stand p l .1, wf .types-fit)) (any-unknown _ e)))) is-int
   any-is-int (row i) l e = subst IsInt (sym (ap (mapType qualifier) (solved .choice int .2 (i + 64) (omega (arith, wf .terms-fit)) (any-unknown _ e)))) is-int
 
-  pub solved-accepted : Accepted six m (wordOf m w) (shapesOf m kind)
-  solved-accepted =
+  pub solved-greatest : GreatestTyping six m (wordOf m w) (shapesOf m kind)
+  solved-greatest =
       record {
         worded = λ x l. rw (word-node x) (coded _ (in-range x l));
         greatest = greatest;
