@@ -9,7 +9,7 @@ use lib.ListN.{length}
 use Rattle.model.specs.Machine.{Machine, freshMachine}
 use Rattle.model.specs.WellFormed.{WellFormed}
 use Rattle.model.specs.Strength.{six}
-use Rattle.model.specs.Inference.{Slot, Shape, Judged, not-closed, not-typable, typed}
+use Rattle.model.specs.Inference.{Slot, Shape, Judged, not-closed, not-typable, below-floor, typed}
 use Rattle.model.specs.Session.{Call, add, redeclare, take-back, infer, Outcome, Infers, short, refused, accepted, Answers, adds, redeclares, takes-back, infers, Session, done, next}
 use Rattle.table.proofs.WellFormed.{fresh-well-formed, answers-well-formed}
 use Rattle.inference.proofs.Corollaries.{cause-number}
@@ -28,7 +28,8 @@ machine-judged m w literals =
 long-answered : {m : Machine} {number k : ℕ} {word : Slot → ℕ} {shape : Slot → Shape} (buffer : List ℕ) → 6280 ≤ length buffer → Judged six m number k word shape → (o : Outcome) × Infers m buffer o
 long-answered buffer long (not-closed {word} {shape} never) = (_, refused {word = word} {shape = shape} long (not-closed never) (λ e. omega arith))
 long-answered buffer long (not-typable {word = word} {shape = shape} closed refusal) = (_, refused {word = word} {shape = shape} long (not-typable closed refusal) (λ e. omega (arith, cause-number (refusal .cause) .0)))
-long-answered buffer long (typed closed a) = (_, accepted long (typed closed a))
+long-answered buffer long (below-floor closed a missed) = (_, refused long (below-floor closed a missed) (λ e. omega arith))
+long-answered buffer long (typed closed a met) = (_, accepted long (typed closed a met))
 
 infer-answered : {m : Machine} (buffer : List ℕ) → HasJudgement m → (o : Outcome) × Infers m buffer o
 infer-answered {m} buffer j = go (decLt (length buffer) 6280)

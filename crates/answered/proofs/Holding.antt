@@ -66,7 +66,7 @@ type-held : (i : ℕ) → i < 64 → (row : TypeRow) → TypeStands i (row .form
 type-held i below row h = Struct.owes TypeRowType.the-type TypeRowLaws.the-laws row (form-held i below (row .form) h, tt)
 
 param-held : (types : ℕ) → types ≤ 64 → (param : Param) → ParamStands types param → Held ParamType.the-field ParamLaws.the-field-laws param
-param-held types few param h = Struct.owes ParamType.the-type ParamLaws.the-laws param ((refl, omega arith), ((refl, omega arith), tt))
+param-held types few param h = Struct.owes ParamType.the-type ParamLaws.the-laws param ((refl, omega arith), ((refl, omega arith), ((refl, omega arith), tt)))
 
 term-held : (params i : ℕ) → params ≤ 64 → i < 256 → (term : Term) → TermStands params i term → Literal term → Is TermType.the-row term (Enum.vals TermType.the-type TermLaws.the-laws term)
 term-held params i few below (Lam p b) h l = Enum.owes TermType.the-type TermLaws.the-laws (Lam p b) ((refl, omega arith), ((refl, omega arith), tt))
@@ -104,7 +104,7 @@ module _ (m : Machine) (w : WellFormed m) (literals : Literals m) where
   params-held : Held (array-field ParamType.the-field 64) (array-laws ParamType.the-field ParamLaws.the-field-laws 64) (tableOf m .params)
   params-held =
       array-held ParamType.the-field ParamLaws.the-field-laws noParam 64 (m .params) (w .params-fit)
-      (param-held 1 (omega arith) noParam (omega arith, omega arith))
+      (param-held 1 (omega arith) noParam (omega arith, omega arith, omega arith))
       (λ i h. param-held (length (m .types)) (w .types-fit) (getD (m .params) i noParam) (w .params-stand i h))
 
   terms-held : Held (array-field TermRowType.the-field 256) (array-laws TermRowType.the-field TermRowLaws.the-field-laws 256) (tableOf m .terms)

@@ -62,7 +62,7 @@ module _ (s : List ℕ) where
 
   param-line : LineLiteral (paramLine s)
   unfolding paramLine
-  param-line = whole-line 4 _ (of-value _ _ λ p e. of-value _ _ λ q e. of-value _ _ λ t e. tt)
+  param-line = of-value _ _ λ p e. of-value _ _ λ q e. of-value _ _ λ t e. of-value _ _ λ f e. tt
 
   leaf-line : LineLiteral (leafLine s)
   unfolding leafLine varLine numLine encLine

@@ -9,7 +9,7 @@ use Rattle.model.specs.Session.{Call, infer, Outcome, Infers, Answers, infers}
 use Rattle.inference.proofs.Corollaries.{reported-greatest}
 use Rattle.demands.specs.Completion.{HasShape, Completes, ReportsTyping}
 
-completes : {m : Machine} {word : Slot → ℕ} {shape : Slot → Shape} → GreatestTyping six m word shape → Completes m word shape
+pub completes : {m : Machine} {word : Slot → ℕ} {shape : Slot → Shape} → GreatestTyping six m word shape → Completes m word shape
 completes {m} {shape = shape} a =
     record {
       typing = a .together .0;

@@ -1,4 +1,4 @@
--- What is promised, on one page: the three demands as theorems. What their words mean stands in model/specs and in specs/ here;
+-- What is promised, on one page: the three demands as theorems, as document 02 words them now. What their words mean stands in model/specs and in specs/ here;
 -- by demand 3 every list of calls that the code ran is a `Session`, so that demands 1 and 2 hold of it.
 use Prim.Native.Nat.{ℕ, _≤_, _<_}
 use mathlib.Core.Bool.{true}
@@ -6,7 +6,7 @@ use mathlib.Core.List.{List, [], _∷_, _++_, map}
 use mathlib.Core.Path.{_≡_}
 use lib.ListN.{length, take, drop}
 use Rattle.model.specs.Lists.{contains}
-use Rattle.model.specs.Machine.{Machine, freshMachine}
+use Rattle.model.specs.Machine.{Machine, freshMachine, paramAt}
 use Rattle.model.specs.Closed.{Closed}
 use Rattle.model.specs.Typing.{Typable}
 use Rattle.model.specs.Strength.{whole, six}
@@ -29,12 +29,15 @@ use Rattle.text.proofs.Same.{prints-same, returns-same}
 use Rattle.starred.specs.Starred.{All}
 use Rattle.demands.specs.Refusals.{HasAnswer, RefusedExactly}
 use Rattle.demands.specs.Standing.{standing}
-use Rattle.demands.specs.Completion.{ReportsTyping}
+use Rattle.demands.specs.Floors.{SomeMeetsFloors, GreatestMeetsFloors, GreatestMissesFloor}
+use Rattle.demands.specs.Completion.{ReportsTyping, ReportsAboveFloors}
 use Rattle.demands.specs.Replacements.{callsOf}
 use Rattle.demands.specs.Scripts.{OneSession, commandFor, Spelled, unspelledNumbers, scriptOf, answersOf, AllAlike}
-use Rattle.demands.proofs.Exactly.{refused-exactly}
+use Rattle.demands.proofs.Exactly.{refused-exactly, answers-zero}
 use Rattle.demands.proofs.Standing.{session-standing}
+use Rattle.demands.proofs.Staying.{floor-stays}
 use Rattle.demands.proofs.Completion.{reports-typing, answered-reports}
+use Rattle.demands.proofs.Floors.{accepted-greatest, missed-greatest, above-floors, accepted-some, missed-every}
 use Rattle.demands.proofs.LeftOut.{unspelled-refused}
 use Rattle.demands.proofs.Scripts.{one-session, responds-same, spelled-makes, script-lines, script-alike, list-converses}
 
@@ -88,13 +91,18 @@ pub answers-determined : {m : Machine} {trace trace′ : List (Call × Outcome)}
     Session m trace → Session m trace′ → map (λ step. step .0) trace ≡ map (λ step. step .0) trace′ → trace ≡ trace′
 answers-determined = session-same
 
+-- "The row outside 21 to 23, and the length of a refusal, are 0", with 24 beside the three.
+pub zero-elsewhere : {m after : Machine} {call : Call} {o : Outcome} → Answers m call o after →
+    (¬ (o .row ≡ 0) → (21 ≤ o .number) × (o .number ≤ 24)) × (¬ (o .number ≡ 0) → o .size ≡ 0)
+zero-elsewhere = answers-zero
+
 -- 10 exactly where the program is not closed, the buffer being long enough.
 pub refused-10-exactly : {m : Machine} {buffer : List ℕ} {o : Outcome} → Infers m buffer o → 6280 ≤ length buffer →
     (o .number ≡ 10 → ¬ Closed m) × (¬ Closed m → o .number ≡ 10)
 refused-10-exactly = open-exactly
 
 -- 21 to 23 only where no typing exists, naming the least row; and always where none exists.
-pub refused-only-untypable : {m : Machine} {buffer : List ℕ} {o : Outcome} → Infers m buffer o → 21 ≤ o .number →
+pub refused-only-untypable : {m : Machine} {buffer : List ℕ} {o : Outcome} → Infers m buffer o → 21 ≤ o .number → o .number ≤ 23 →
     Refusal six m (o .number) (o .row) × ¬ Typable (whole six) m (length (m .terms))
 refused-only-untypable = refused-untypable
 
@@ -102,7 +110,37 @@ pub untypable-always-refused : {m : Machine} {buffer : List ℕ} {o : Outcome} �
     ¬ Typable (whole six) m (length (m .terms)) → (21 ≤ o .number) × (o .number ≤ 23)
 untypable-always-refused = untypable-refused
 
--- Otherwise the report: every typing is at or below its words (`greatest`), and one typing has all of them (`together`).
+-- "otherwise it accepts exactly when the greatest typing meets every floor"
+pub accepted-exactly : {m : Machine} {buffer : List ℕ} {o : Outcome} → Infers m buffer o → 6280 ≤ length buffer → Closed m →
+    (o .number ≡ 0 → GreatestMeetsFloors m) × (GreatestMeetsFloors m → o .number ≡ 0)
+accepted-exactly = accepted-greatest
+
+-- "and returns 24 if not": exactly where the program has typings and the greatest one misses a floor, naming the lowest such parameter.
+pub refused-24-exactly : {m : Machine} {buffer : List ℕ} {o : Outcome} → Infers m buffer o → 6280 ≤ length buffer → Closed m →
+    (o .number ≡ 24 → GreatestMissesFloor m (o .row)) × ((p : ℕ) → GreatestMissesFloor m p → (o .number ≡ 24) × (o .row ≡ p))
+refused-24-exactly = missed-greatest
+
+-- "The parameter record holds it, and redeclare leaves it": no call changes the floor of a parameter that stands.
+pub floors-stay : {m after : Machine} {call : Call} {o : Outcome} → Answers m call o after → (p : ℕ) → p < length (m .params) →
+    paramAt after p .floor ≡ paramAt m p .floor
+floors-stay = floor-stays
+
+-- "A user may rely on this: acceptance means that some typing meets every floor." The one that has all of the report does.
+pub accepted-meets-floors : {m : Machine} {buffer : List ℕ} {o : Outcome} → Infers m buffer o → o .number ≡ 0 → ReportsAboveFloors m buffer o
+accepted-meets-floors = above-floors
+
+-- And wherever some typing meets every floor, it accepts.
+pub accepted-where-some-meets : {m : Machine} {buffer : List ℕ} {o : Outcome} → Infers m buffer o → 6280 ≤ length buffer → Closed m →
+    (o .number ≡ 0 → SomeMeetsFloors m) × (SomeMeetsFloors m → o .number ≡ 0)
+accepted-where-some-meets = accepted-some
+
+-- So it is 24 exactly where typings exist and none of them meets every floor.
+pub refused-24-where-none-meets : {m : Machine} {buffer : List ℕ} {o : Outcome} → Infers m buffer o → 6280 ≤ length buffer → Closed m →
+    (o .number ≡ 24 → Typable (whole six) m (length (m .terms)) × ¬ SomeMeetsFloors m)
+    × (Typable (whole six) m (length (m .terms)) → ¬ SomeMeetsFloors m → o .number ≡ 24)
+refused-24-where-none-meets = missed-every
+
+-- The report of an accepted call: every typing is at or below its words (`greatest`), and one typing has all of them (`together`).
 pub report-is-greatest : {m : Machine} {buffer : List ℕ} {o : Outcome} → Infers m buffer o → o .number ≡ 0 →
     (word : Slot → ℕ)
     × (shape : Slot → Shape)

@@ -10,14 +10,16 @@ use borrow.Author.Tests.{eqb-true, ne-eqb}
 use Rattle.model.specs.Lists.{contains}
 use Rattle.model.specs.Machine.{Machine}
 use Rattle.model.specs.Strength.{six}
-use Rattle.model.specs.Inference.{Slot, Shape, Cause, shapes, qualifiers, bounds, Judged, not-closed, not-typable, typed}
+use Rattle.model.specs.Inference.{Slot, Shape, Cause, shapes, qualifiers, bounds, Judged, not-closed, not-typable, below-floor, typed}
 use Rattle.model.specs.Session.{Call, infer, Outcome, returning, Infers, short, refused, accepted, Answers, adds, redeclares, takes-back, infers}
+use Rattle.model.proofs.Six.{six-lawful}
 use Rattle.model.proofs.Unique.{judged-same}
-use Rattle.inference.proofs.Corollaries.{cause-number}
-use Rattle.demands.specs.Refusals.{Breaks, checks, inFrontOf, lent, RefusedExactly, buffer-short, program-open, no-typing}
+use Rattle.inference.proofs.Corollaries.{cause-number, infers-zero}
+use Rattle.demands.specs.Refusals.{Breaks, checks, inFrontOf, lent, RefusedExactly, buffer-short, program-open, no-typing, floors-missed}
 use Rattle.demands.proofs.Members.{not-in-front, rising, in-front-less}
 use Rattle.demands.proofs.Refusals.{First, add-refused, add-first, redeclare-refused, redeclare-first, take-back-refused, take-back-first}
 use Rattle.demands.proofs.Standing.{answers-described}
+use Rattle.demands.proofs.Floors.{some-meets, none-meets}
 
 -- "Accepted is everything else"
 otherwise : {m : Machine} {call : Call} {number : ℕ} → (¬ (number ≡ 0) → Breaks m call number) → ((n : ℕ) → ¬ Breaks m call n) → number ≡ 0
@@ -40,6 +42,12 @@ cause-checked : {m : Machine} {k number : ℕ} (buffer : List ℕ) → Cause six
 cause-checked buffer (shapes none) = refl
 cause-checked buffer (qualifiers some none) = refl
 cause-checked buffer (bounds some) = refl
+
+-- "after 21 to 23": 24 stands in front of none of the three.
+cause-before-floors : {m : Machine} {k number : ℕ} (buffer : List ℕ) → Cause six m k number → ¬ (contains 24 (inFrontOf number (checks (infer buffer))) ≡ true)
+cause-before-floors buffer (shapes none) h = false≢true h
+cause-before-floors buffer (qualifiers some none) h = false≢true h
+cause-before-floors buffer (bounds some) h = false≢true h
 
 -- Each number of the table is one of its call's checks.
 broken-checked : {m : Machine} {call : Call} {n : ℕ} → Breaks m call n → contains n (checks call) ≡ true
@@ -64,6 +72,7 @@ broken-checked (Breaks.code-above h) = refl
 broken-checked (Breaks.buffer-short h) = refl
 broken-checked (Breaks.program-open never) = refl
 broken-checked (Breaks.no-typing {buffer = buffer} refusal) = cause-checked buffer (refusal .cause)
+broken-checked (Breaks.floors-missed none) = refl
 
 -- Where every condition that is broken gives the number or a later one, none that is checked before the number is broken.
 module _ {m after : Machine} {call : Call} {number : ℕ} (orderly : rising (checks call) ≡ true) (lends-none : lent call ≡ [])
@@ -85,13 +94,14 @@ module _ {m after : Machine} {call : Call} {number : ℕ} (orderly : rising (che
         untouched = λ some. (left-alone answers some, sym lends-none);
       }
 
--- The conditions of an infer: each is tested before those after it, and the three numbers of a program without a typing exclude each other.
+-- The conditions of an infer: each is tested before those after it, and the three numbers of a program without a typing exclude each other and 24.
 module _ {m : Machine} {buffer : List ℕ} where
   infer-refused : {o : Outcome} → Infers m buffer o → ¬ (o .number ≡ 0) → Breaks m (infer buffer) (o .number)
   infer-refused (short h) some = buffer-short h
   infer-refused (refused h (not-closed never) z) some = program-open never
   infer-refused (refused h (not-typable closed refusal) z) some = no-typing refusal
-  infer-refused (refused h (typed closed a) z) some = absurd (z refl)
+  infer-refused (refused h (below-floor closed a missed) z) some = floors-missed (none-meets a missed)
+  infer-refused (refused h (typed closed a met) z) some = absurd (z refl)
   infer-refused (accepted h j) some = absurd (some refl)
 
   -- A number's condition is broken: the call is refused, and the number does not stand in front of the one returned.
@@ -100,17 +110,25 @@ module _ {m : Machine} {buffer : List ℕ} where
   judged-first long j (buffer-short h) = absurd (omega arith)
   judged-first long (not-closed never) (program-open never′) = (λ e. omega arith, λ h. false≢true h)
   judged-first long (not-typable closed refusal) (program-open never) = absurd (never closed)
-  judged-first long (typed closed a) (program-open never) = absurd (never closed)
+  judged-first long (below-floor closed a missed) (program-open never) = absurd (never closed)
+  judged-first long (typed closed a met) (program-open never) = absurd (never closed)
   judged-first long (not-closed never) (no-typing {number = n} refusal) =
       (λ e. omega arith, λ h. omega (arith, eqb-true n 11 (simp or-false at h), cause-number (refusal .cause) .0))
   judged-first {word = word} {shape} long (not-typable closed refusal) (no-typing {number = n} refusal′) =
-      let same = judged-same six m (not-typable {word = word} {shape = shape} closed refusal′) (not-typable {word = word} {shape = shape} closed refusal) .0 in (
+      let same = judged-same six six-lawful m (not-typable {word = word} {shape = shape} closed refusal′) (not-typable {word = word} {shape = shape} closed refusal) .0 in (
         λ e. omega (arith, cause-number (refusal .cause) .0),
         subst (λ (number : ℕ). ¬ (contains n (inFrontOf number (checks (infer buffer))) ≡ true)) same (not-in-front n (checks (infer buffer))),
       )
-  judged-first {word = word} {shape} long (typed closed a) (no-typing refusal) =
-      let same = judged-same six m (not-typable {word = word} {shape = shape} closed refusal) (typed closed a) .0 in
+  judged-first {word = word} {shape} long (below-floor closed a missed) (no-typing refusal) =
+      let same = judged-same six six-lawful m (not-typable {word = word} {shape = shape} closed refusal) (below-floor closed a missed) .0 in
+      absurd (omega (arith, cause-number (refusal .cause) .1))
+  judged-first {word = word} {shape} long (typed closed a met) (no-typing refusal) =
+      let same = judged-same six six-lawful m (not-typable {word = word} {shape = shape} closed refusal) (typed closed a met) .0 in
       absurd (omega (arith, cause-number (refusal .cause) .0))
+  judged-first long (not-closed never) (floors-missed none) = (λ e. omega arith, λ h. false≢true h)
+  judged-first long (not-typable closed refusal) (floors-missed none) = (λ e. omega (arith, cause-number (refusal .cause) .0), cause-before-floors buffer (refusal .cause))
+  judged-first long (below-floor closed a missed) (floors-missed none) = (λ e. omega arith, λ h. false≢true h)
+  judged-first long (typed closed a met) (floors-missed none) = absurd (none (some-meets a met))
 
   infer-first : {o : Outcome} {n : ℕ} → Infers m buffer o → Breaks m (infer buffer) n →
       ¬ (o .number ≡ 0) × ¬ (contains n (inFrontOf (o .number) (checks (infer buffer))) ≡ true)
@@ -133,3 +151,11 @@ refused-exactly {m} (adds {line}) = change-exactly refl refl (add-refused m line
 refused-exactly {m} (redeclares {p} {code}) = change-exactly refl refl (redeclare-refused m p code) (λ n. redeclare-first m p code) redeclares
 refused-exactly {m} takes-back = change-exactly refl refl (take-back-refused m) (λ n. take-back-first m) takes-back
 refused-exactly (infers i) = infer-exactly i
+
+-- "The row outside 21 to 23, and the length of a refusal, are 0."
+pub answers-zero : {m after : Machine} {call : Call} {o : Outcome} → Answers m call o after →
+    (¬ (o .row ≡ 0) → (21 ≤ o .number) × (o .number ≤ 24)) × (¬ (o .number ≡ 0) → o .size ≡ 0)
+answers-zero adds = (λ some. absurd (some refl), λ some. refl)
+answers-zero redeclares = (λ some. absurd (some refl), λ some. refl)
+answers-zero takes-back = (λ some. absurd (some refl), λ some. refl)
+answers-zero (infers i) = infers-zero i

@@ -2,8 +2,10 @@ pub mod Checks
 pub mod Members
 pub mod Refusals
 pub mod Standing
-pub mod Exactly
+pub mod Staying
 pub mod Completion
+pub mod Floors
+pub mod Exactly
 pub mod Decimal
 pub mod Loading
 pub mod ProgramA

@@ -11,12 +11,13 @@ use borrow.Author.Tests.{eqb-true, not-true}
 use Rattle.scheme.proofs.Every.{and-left, and-right}
 use Rattle.model.specs.Lists.{anyOf, allOf, contains, same, bytes}
 use Rattle.model.specs.Number.{numberOf}
-use Rattle.model.specs.Word.{qualifierWords, schemeWords, operationWords, placeIn, orElse, variableCode, variableOf, qualifierOf, schemeOf, operationOf}
-use Rattle.model.specs.Line.{onto, fields, field, number, literal, qualifier, scheme, operation, given, choose, exactly, intLine, anyLine, arrowLine, paramLine, lamLine, appLine, opLine, varLine, numLine, encLine, typeLine, leafLine, termLine, lineOf}
+use Rattle.model.specs.Word.{qualifierWords, schemeWords, operationWords, placeIn, orElse, variableCode, wordOf, variableOf, qualifierOf, schemeOf, operationOf}
+use Rattle.model.specs.Line.{onto, fields, field, number, literal, qualifier, floor, scheme, operation, given, choose, exactly, intLine, anyLine, arrowLine, paramLine, lamLine, appLine, opLine, varLine, numLine, encLine, typeLine, leafLine, termLine, lineOf}
 use Rattle.model.specs.declared.Field.{Field}
 use Rattle.model.specs.declared.Field.the-variants.{Value, NoValue}
 use Rattle.model.specs.declared.Line.{Line}
 use Rattle.model.specs.declared.Line.the-variants.{NoForm}
+use Rattle.line.proofs.Bounds.{floor-cases}
 use Rattle.demands.proofs.Decimal.{number-digits}
 use Rattle.demands.proofs.Without.{digits-without}
 
@@ -57,12 +58,16 @@ variable-clean v (b ∷ bs) e = by (eqb b 103) refl e
     by true h e = rw (eqb-true b 103 h) (digits (numberOf 63 bs) refl e)
     by false h e = cc
 
+qualifier-word-clean : (v : ℕ) (f : List ℕ) → wordOf f ≡ Value v → Clean f
+unfolding wordOf
+qualifier-word-clean v f e = place-clean 0 v qualifierWords f refl e
+
 qualifier-clean : (v : ℕ) (f : List ℕ) → qualifierOf f ≡ Value v → Clean f
 unfolding qualifierOf
-qualifier-clean v f e = by (placeIn 0 qualifierWords f) refl e
+qualifier-clean v f e = by (wordOf f) refl e
   where
-    by : (k : Field) → placeIn 0 qualifierWords f ≡ k → orElse k (variableOf f) ≡ Value v → Clean f
-    by (Value k) read e = place-clean 0 k qualifierWords f refl read
+    by : (k : Field) → wordOf f ≡ k → orElse k (variableOf f) ≡ Value v → Clean f
+    by (Value k) read e = qualifier-word-clean k f read
     by NoValue read e = variable-clean v f e
 
 scheme-clean : (v : ℕ) (f : List ℕ) → schemeOf f ≡ Value v → Clean f
@@ -124,6 +129,10 @@ module _ (s : List ℕ) where
     operation-none : given (operation s k) rest ≡ NoForm
     operation-none = given-none (operation s k) rest (λ v e. none (operation-clean v (field s k) e) v)
 
+  -- The floor is left out, or stands in field 4.
+  floor-none : {rest : ℕ → Line} → (length (fields s) ≡ 4 → (v : ℕ) → rest v ≡ NoForm) → (length (fields s) ≡ 5 → Clean (field s 4) → (v : ℕ) → rest v ≡ NoForm) → given (floor s) rest ≡ NoForm
+  floor-none {rest} four five = given-none (floor s) rest (λ v e. floor-cases s v e (λ n plain. four n v) (λ n word. five n (qualifier-word-clean v (field s 4) word) v))
+
   -- The tag stands in field 0, the kind's word in field 2.
   word-none : (k : ℕ) (word : List ℕ) {line other : Line} → Clean word → (Clean (field s k) → line ≡ NoForm) → other ≡ NoForm → choose (same (field s k) word) line other ≡ NoForm
   word-none k word clean none = choose-none (same (field s k) word) (λ e. none (word-clean (field s k) word clean e))
@@ -150,7 +159,9 @@ module _ (s : List ℕ) (feed : contains 10 s ≡ true) where
   module _ (c₀ : Clean (field s 0)) where
     param-none : paramLine s ≡ NoForm
     unfolding paramLine
-    param-none = exactly-none s 4 λ n. number-none s 1 λ c₁ p. qualifier-none s 2 λ c₂ q. number-none s 3 λ c₃ t. all-read n (start then c₀ then c₁ then c₂ then c₃)
+    param-none =
+        number-none s 1 λ c₁ p. qualifier-none s 2 λ c₂ q. number-none s 3 λ c₃ t.
+        floor-none s (λ n f. all-read n (start then c₀ then c₁ then c₂ then c₃)) (λ n c₄ f. all-read n (start then c₀ then c₁ then c₂ then c₃ then c₄))
 
     module _ (c₂ : Clean (field s 2)) where
       int-none : intLine s ≡ NoForm

@@ -48,7 +48,7 @@ in-FHE-within s e = (cc, cc fhe-below-fhe, cc (fhe-below-fhe, plain-below-plain)
 
 in-FHE-prints : PrintsOutput program-A-in-FHE
 unfolding loadOf reportOf atOrBelow highestOf
-in-FHE-prints = accepted-prints program-A-in-FHE (oneParameter 1 terms) refl refl fhe int int (search depth 30) (search depth 30) in-FHE-within refl
+in-FHE-prints = accepted-prints program-A-in-FHE (oneParameter 1 terms) refl refl refl fhe int int (search depth 30) (search depth 30) in-FHE-within refl
 
 -- `redeclare 0 1` makes the one of the other.
 redeclared-A : redeclared (oneParameter 7 terms) 0 1 .machine ≡ oneParameter 1 terms

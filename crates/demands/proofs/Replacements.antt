@@ -44,9 +44,9 @@ first-report-repeated-excluded adding buffer buffer′ first changed second call
 pub refused-21-excluded : {m : Machine} {buffer : List ℕ} {o : Outcome} → Infers m buffer o → Typable (whole six) m (length (m .terms)) →
     ¬ (o .number ≡ 21) × ¬ (o .number ≡ 22) × ¬ (o .number ≡ 23)
 refused-21-excluded i typable = (
-  λ e. refused-untypable i (omega arith) .1 typable,
-  λ e. refused-untypable i (omega arith) .1 typable,
-  λ e. refused-untypable i (omega arith) .1 typable,
+  λ e. refused-untypable i (omega arith) (omega arith) .1 typable,
+  λ e. refused-untypable i (omega arith) (omega arith) .1 typable,
+  λ e. refused-untypable i (omega arith) (omega arith) .1 typable,
 )
 
 -- "10 before looking: the closed condition with demand 1."

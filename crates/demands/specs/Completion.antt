@@ -1,5 +1,5 @@
 -- Reports that complete to a typing.
--- Document 01, "The report" and "Before a delivery is taken".
+-- Document 01, "The report" and "Before a delivery is taken"; document 02, a).
 use Prim.Native.Nat.{ℕ}
 use mathlib.Core.List.{List, _++_}
 use mathlib.Core.Path.{_≡_}
@@ -11,6 +11,7 @@ use Rattle.model.specs.Strength.{six}
 use Rattle.model.specs.Inference.{Slot, Listed, qualifierOf, typeOf, IsInt, IsArrow, Shape, Types}
 use Rattle.model.specs.Report.{report}
 use Rattle.model.specs.Session.{Outcome}
+use Rattle.demands.specs.Floors.{MeetsFloors}
 
 -- A type of the shape, "with ANY taken as INT".
 abbrev pub HasShape : Shape → Ty Qualifier → Type 0
@@ -25,11 +26,18 @@ pub record Completes (m : Machine) (word : Slot → ℕ) (shape : Slot → Shape
   pub has-words : (x : Slot) → Listed six m x → qualifierOf typing x ≡ six .word (word x)
   pub has-shapes : (x : Slot) → Listed six m x → HasShape (shape x) (typeOf typing x)
 
--- The bytes of the outcome are the report of such schemes and shapes, and beyond it those of the buffer.
-abbrev pub ReportsTyping : Machine → List ℕ → Outcome → Type 0
-ReportsTyping m buffer o =
+-- The bytes of the outcome are the report of schemes and shapes of which something holds, and beyond it those of the buffer.
+abbrev pub Reports : Machine → List ℕ → Outcome → ((Slot → ℕ) → (Slot → Shape) → Type 0) → Type 0
+Reports m buffer o Holds =
     (word : Slot → ℕ)
     × (shape : Slot → Shape)
     × (o .size ≡ length (report m word shape))
     × (o .buffer ≡ report m word shape ++ drop (length (report m word shape)) buffer)
-    × Completes m word shape
+    × Holds word shape
+
+abbrev pub ReportsTyping : Machine → List ℕ → Outcome → Type 0
+ReportsTyping m buffer o = Reports m buffer o (Completes m)
+
+-- Document 02, a): the typing that has all the schemes and shapes of the report "meets every floor".
+abbrev pub ReportsAboveFloors : Machine → List ℕ → Outcome → Type 0
+ReportsAboveFloors m buffer o = Reports m buffer o (λ word shape. (c : Completes m word shape) × MeetsFloors m (c .typing))

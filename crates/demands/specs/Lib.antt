@@ -1,3 +1,4 @@
+pub mod Floors
 pub mod Refusals
 pub mod Standing
 pub mod Completion

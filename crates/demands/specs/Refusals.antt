@@ -1,5 +1,5 @@
--- When a call is refused: document 01's table of numbers, and what demand 1 says of one call.
--- Document 01, "The four calls".
+-- When a call is refused: document 01's table of numbers with those that document 02 adds, and what demand 1 says of one call.
+-- Document 01, "The four calls"; document 02, a).
 use Prim.Native.Nat.{ℕ, _≤_, _<_}
 use mathlib.Core.Bool.{true, cond}
 use mathlib.Core.List.{List, [], _∷_}
@@ -18,6 +18,7 @@ use Rattle.model.specs.declared.Param.{Param}
 use Rattle.model.specs.declared.Term.{Term}
 use Rattle.model.specs.declared.Term.the-variants.{Lam}
 use Rattle.model.specs.declared.Line.the-variants.{TypeLine, ParamLine, TermLine, NoForm}
+use Rattle.demands.specs.Floors.{SomeMeetsFloors}
 
 -- The table of numbers: on this machine the words of the number's row are true of the call. Which number is returned where several are is said below.
 pub data Breaks (m : Machine) : Call → ℕ → Type 0 where
@@ -55,13 +56,15 @@ pub data Breaks (m : Machine) : Call → ℕ → Type 0 where
   program-open : {buffer : List ℕ} → ¬ Closed m → Breaks m (infer buffer) 10
   -- 21, 22, 23: "no typing"
   no-typing : {buffer : List ℕ} {number k : ℕ} → Refusal six m number k → Breaks m (infer buffer) number
+  -- 24, of document 02, a): no typing "meets every floor"
+  floors-missed : {buffer : List ℕ} → ¬ SomeMeetsFloors m → Breaks m (infer buffer) 24
 
--- "Add checks 1 to 8 in that order; redeclare 5, then 12; infer 11, 10, then 21 to 23."
+-- "Add checks 1 to 8 in that order; redeclare 5, then 12; infer 11, 10, then 21 to 23"; document 02, a): 24 "after 21 to 23".
 abbrev pub checks : Call → List ℕ
 checks (add line) = 1 ∷ 2 ∷ 3 ∷ 4 ∷ 5 ∷ 6 ∷ 7 ∷ 8 ∷ []
 checks (redeclare p code) = 5 ∷ 12 ∷ []
 checks take-back = 9 ∷ []
-checks (infer buffer) = 11 ∷ 10 ∷ 21 ∷ 22 ∷ 23 ∷ []
+checks (infer buffer) = 11 ∷ 10 ∷ 21 ∷ 22 ∷ 23 ∷ 24 ∷ []
 
 -- The numbers that stand in front of one in a list; all where it does not stand there.
 abbrev pub inFrontOf : ℕ → List ℕ → List ℕ

@@ -8,7 +8,7 @@ use Rattle.model.specs.Machine.{Machine}
 use Rattle.model.specs.Closed.{Closed}
 use Rattle.model.specs.Typing.{Typable}
 use Rattle.model.specs.Strength.{whole, six}
-use Rattle.model.specs.Inference.{Slot, Shape, Cause, Refusal, GreatestTyping, Judged, not-closed, not-typable, typed}
+use Rattle.model.specs.Inference.{Slot, Shape, Cause, Refusal, GreatestTyping, Judged, not-closed, not-typable, below-floor, typed}
 use Rattle.model.specs.Report.{report}
 use Rattle.model.specs.Session.{Outcome, Infers, short, refused, accepted}
 use Rattle.model.proofs.Fewer.{typable-fewer}
@@ -24,10 +24,11 @@ cause-number (Cause.bounds some) = (omega arith, omega arith)
 judged-closed : {m : Machine} {n k : ℕ} {word : Slot → ℕ} {shape : Slot → Shape} → Judged six m n k word shape → n ≡ 0 → Closed m
 judged-closed (not-closed never) e = absurd (omega arith)
 judged-closed (not-typable closed refusal) e = closed
-judged-closed (typed closed a) e = closed
+judged-closed (below-floor closed a f) e = closed
+judged-closed (typed closed a met) e = closed
 
 -- Some row leaves no typing, so the program has none.
-untypable : {m : Machine} {number k : ℕ} → Refusal six m number k → ¬ Typable (whole six) m (length (m .terms))
+pub untypable : {m : Machine} {number k : ℕ} → Refusal six m number k → ¬ Typable (whole six) m (length (m .terms))
 untypable refusal some = refusal .none (typable-fewer (omega (arith, refusal .in-list)) some)
 
 -- 10 exactly where the program is not closed, once the buffer passes 11.
@@ -36,17 +37,19 @@ pub open-exactly : {m : Machine} {buffer : List ℕ} {o : Outcome} → Infers m 
 open-exactly (short h) long = absurd (omega arith)
 open-exactly (refused h (not-closed never) z) long = (λ e. never, λ e. refl)
 open-exactly (refused h (not-typable closed refusal) z) long = (λ e. absurd (omega (arith, cause-number (refusal .cause) .0)), λ never. absurd (never closed))
-open-exactly (refused h (typed closed a) z) long = absurd (z refl)
+open-exactly (refused h (below-floor closed a f) z) long = (λ e. absurd (omega arith), λ never. absurd (never closed))
+open-exactly (refused h (typed closed a met) z) long = absurd (z refl)
 open-exactly (accepted h j) long = (λ e. absurd (omega arith), λ never. absurd (never (judged-closed j refl)))
 
 -- 21 to 23 only where no typing exists, naming the least row that leaves none.
-pub refused-untypable : {m : Machine} {buffer : List ℕ} {o : Outcome} → Infers m buffer o → 21 ≤ o .number →
+pub refused-untypable : {m : Machine} {buffer : List ℕ} {o : Outcome} → Infers m buffer o → 21 ≤ o .number → o .number ≤ 23 →
     Refusal six m (o .number) (o .row) × ¬ Typable (whole six) m (length (m .terms))
-refused-untypable (short h) n = absurd (omega arith)
-refused-untypable (refused h (not-closed none) z) n = absurd (omega arith)
-refused-untypable (refused h (not-typable closed refusal) z) n = (refusal, untypable refusal)
-refused-untypable (refused h (typed closed a) z) n = absurd (z refl)
-refused-untypable (accepted h j) n = absurd (omega arith)
+refused-untypable (short h) n n′ = absurd (omega arith)
+refused-untypable (refused h (not-closed none) z) n n′ = absurd (omega arith)
+refused-untypable (refused h (not-typable closed refusal) z) n n′ = (refusal, untypable refusal)
+refused-untypable (refused h (below-floor closed a f) z) n n′ = absurd (omega arith)
+refused-untypable (refused h (typed closed a met) z) n n′ = absurd (z refl)
+refused-untypable (accepted h j) n n′ = absurd (omega arith)
 
 -- And always where none exists, once the buffer and the program pass 11 and 10.
 pub untypable-refused : {m : Machine} {buffer : List ℕ} {o : Outcome} → Infers m buffer o → 6280 ≤ length buffer → Closed m →
@@ -54,7 +57,8 @@ pub untypable-refused : {m : Machine} {buffer : List ℕ} {o : Outcome} → Infe
 untypable-refused (short h) long closed none = absurd (omega arith)
 untypable-refused (refused h (not-closed never) z) long closed none = absurd (never closed)
 untypable-refused (refused h (not-typable _ refusal) z) long closed none = cause-number (refusal .cause)
-untypable-refused (refused h (typed _ a) z) long closed none = absurd (z refl)
+untypable-refused (refused h (below-floor _ a f) z) long closed none = absurd (none (a .together .0, a .together .1))
+untypable-refused (refused h (typed _ a met) z) long closed none = absurd (z refl)
 untypable-refused (accepted h j) long closed none = let a = judged-accepted j refl in absurd (none (a .together .0, a .together .1))
 
 -- A refused call names what is judged of the machine, and leaves the buffer.
@@ -86,10 +90,20 @@ reported-greatest i e =
     let r = reported-judged i e in
     (r .0, r .1, r .2, r .3, judged-accepted (r .4) refl)
 
+-- The row outside 21 to 24, and the length of a refusal, are 0.
+pub infers-zero : {m : Machine} {buffer : List ℕ} {o : Outcome} → Infers m buffer o → (¬ (o .row ≡ 0) → (21 ≤ o .number) × (o .number ≤ 24)) × (¬ (o .number ≡ 0) → o .size ≡ 0)
+infers-zero (short h) = (λ some. absurd (some refl), λ some. refl)
+infers-zero (refused h (not-closed none) z) = (λ some. absurd (some refl), λ some. refl)
+infers-zero (refused h (not-typable closed refusal) z) = let number = cause-number (refusal .cause) in (λ some. (number .0, omega (arith, number .1)), λ some. refl)
+infers-zero (refused h (below-floor closed a f) z) = (λ some. (omega arith, omega arith), λ some. refl)
+infers-zero (refused h (typed closed a met) z) = absurd (z refl)
+infers-zero (accepted h j) = (λ some. absurd (some refl), λ some. absurd (some refl))
+
 -- No number, row or size is past its limit.
-pub infers-bounded : {m : Machine} {buffer : List ℕ} {o : Outcome} → Within m → Infers m buffer o → (o .number ≤ 23) × (o .row ≤ 255) × (o .size ≤ 6280)
+pub infers-bounded : {m : Machine} {buffer : List ℕ} {o : Outcome} → Within m → Infers m buffer o → (o .number ≤ 24) × (o .row ≤ 255) × (o .size ≤ 6280)
 infers-bounded w (short h) = (omega arith, omega arith, omega arith)
 infers-bounded w (refused h (not-closed none) z) = (omega arith, omega arith, omega arith)
-infers-bounded w (refused h (not-typable closed refusal) z) = (cause-number (refusal .cause) .1, omega (arith, refusal .in-list, w .terms), omega arith)
-infers-bounded w (refused h (typed closed a) z) = (omega arith, omega arith, omega arith)
+infers-bounded w (refused h (not-typable closed refusal) z) = (omega (arith, cause-number (refusal .cause) .1), omega (arith, refusal .in-list, w .terms), omega arith)
+infers-bounded w (refused h (below-floor closed a f) z) = (omega arith, omega (arith, f .declared, w .params), omega arith)
+infers-bounded w (refused h (typed closed a met) z) = (omega arith, omega arith, omega arith)
 infers-bounded {m} w (accepted {word} {shape} h j) = (omega arith, omega arith, report-length m word shape w)

@@ -9,7 +9,7 @@ use Rattle.model.specs.Machine.{Machine}
 use borrow.Author.Tests.{not-true}
 use Rattle.model.specs.Closed.{Closed}
 use Rattle.model.specs.Strength.{six}
-use Rattle.model.specs.Inference.{Slot, Shape, Cause, Refusal, Judged, not-closed, not-typable, typed}
+use Rattle.model.specs.Inference.{Slot, Shape, Cause, Refusal, FloorsMet, FloorMissed, Judged, not-closed, not-typable, below-floor, typed}
 use Rattle.model.specs.Report.{report}
 use Rattle.model.specs.Session.{Outcome, refusing, reporting, Infers, short, refused, accepted}
 use Rattle.table.specs.Lists.{lists}
@@ -63,9 +63,14 @@ module _ (m : Machine) (buffer : List ℕ) (r : Inferred) where
           subst (Infers m buffer) (refuses-is r number row buffer is)
           (refused {word = λ x. 0} {shape = λ x. Shape.int} h (not-typable closed refusal) (cause-numbered (refusal .cause)))
 
+      -- 24
+      pub floor-refused : (codes : Codes) (p : ℕ) → Solves m codes Placed → FloorMissed six m (wordOf codes) p → (r .number ≡ 24) × (r .row ≡ p) × (r .size ≡ 0) → Infers m buffer (outcome r buffer)
+      floor-refused codes p solves missed is =
+          subst (Infers m buffer) (refuses-is r 24 p buffer is) (refused h (below-floor closed (solves .0) missed) (λ z. omega arith))
+
       -- the report
-      pub report-written : (codes : Codes) (after : List ℕ) (params rows size : ℕ) → Solves m codes Placed → length (m .params) ≡ params → length (m .terms) ≡ rows →
-          Written codes params rows buffer after size → (r .number ≡ 0) × (r .row ≡ 0) × (r .size ≡ size) → Infers m buffer (outcome r after)
-      report-written codes after params rows size solves e f written is =
+      pub report-written : (codes : Codes) (after : List ℕ) (params rows size : ℕ) → Solves m codes Placed → FloorsMet six m (wordOf codes) →
+          length (m .params) ≡ params → length (m .terms) ≡ rows → Written codes params rows buffer after size → (r .number ≡ 0) × (r .row ≡ 0) × (r .size ≡ size) → Infers m buffer (outcome r after)
+      report-written codes after params rows size solves met e f written is =
           let matches = subst₂ (Matches m codes) e f (solves .1) in
-          subst (Infers m buffer) (cc (is .0, is .1, is .2, written .buffer m matches, written .size m matches)) (accepted h (typed closed (solves .0)))
+          subst (Infers m buffer) (cc (is .0, is .1, is .2, written .buffer m matches, written .size m matches)) (accepted h (typed closed (solves .0) met))

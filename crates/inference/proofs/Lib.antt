@@ -1,3 +1,4 @@
+pub mod Floors
 pub mod Judging
 pub mod Follows
 pub mod Corollaries

@@ -19,7 +19,7 @@ use Rattle.inference.specs.declared.Inferred.{Inferred}
 use Rattle.inference.proofs.Corollaries.{reported-judged, infers-bounded}
 
 module _ (m : Machine) (buffer : List ℕ) (o : Inferred) (middle : List ℕ) (well-formed : WellFormed m) (infers : Infers m buffer (outcome o middle)) where
-  pub print-bounded : (o .number ≤ 23) × (o .row ≤ 255) × (o .size ≤ 6280)
+  pub print-bounded : (o .number ≤ 24) × (o .row ≤ 255) × (o .size ≤ 6280)
   print-bounded = infers-bounded (well-formed-within m well-formed) infers
 
   module _ (refused : ¬ (o .number ≡ 0)) where

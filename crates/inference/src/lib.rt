@@ -10,10 +10,12 @@ ghost use Rattle.report.specs.Codes.{codesOf};
 ghost use Rattle.solver.specs.Runs.{Solves};
 ghost use Rattle.inference.specs.Outcome.{outcome};
 ghost use Rattle.inference.specs.Printed.{Printed};
+use floors::Missed;
 use solver::Answer;
 use table::Table;
 
-// What an infer call hands back beside the buffer: the report's length, or a refusal's number and row; 0 for what there is not.
+// What an infer call hands back beside the buffer: the report's length, or a refusal's number and row, or for 24 the parameter; 0 for what
+// there is not.
 pub struct Inferred {
     pub number: u16,
     pub row: usize,
@@ -49,17 +51,17 @@ pub fn print(table: Table, buffer: &mut [u8]) -> usize
     inferred.size
 }
 
-fn refusal(number: u16, row: usize) -> Inferred
+fn refusal(number: u8, row: usize) -> Inferred
     ensures { λ r. ⌜ (r .number ≡ number) × (r .row ≡ row) × (r .size ≡ 0) ⌝ }
 {
     Inferred {
-        number,
+        number: number as u16,
         row,
         size: 0,
     }
 }
 
-// The report of a closed program, or the least row that leaves no typing.
+// The report of a closed program; or the least row that leaves no typing; or the lowest parameter that misses its floor.
 fn place(table: Table, buffer: &mut [u8]) -> Inferred
     requires { ⌜ WellFormed (lists table) × Closed (lists table) × (6280 ≤ length (now buffer)) ⌝ }
     ensures { λ r. ⌜ Infers (lists table) (now (buffer .entry)) (outcome r (now (buffer .exit))) ⌝ }
@@ -77,14 +79,43 @@ fn place(table: Table, buffer: &mut [u8]) -> Inferred
         &mut row_words,
         &mut row_shapes,
     ) {
-        Answer::Placed => {
+        Answer::Placed => report_above_floors(
+            table,
+            buffer,
+            &variables,
+            &param_words,
+            &param_shapes,
+            &row_words,
+            &row_shapes,
+        ),
+        Answer::Refused(number, row) => refusal(number, row),
+    }
+}
+
+// The report of a program that has typings, where its words meet every floor; or the lowest parameter that misses its own.
+fn report_above_floors(
+    table: Table,
+    buffer: &mut [u8],
+    variables: &[u8; 64],
+    param_words: &[u8; 64],
+    param_shapes: &[u8; 64],
+    row_words: &[u8; 256],
+    row_shapes: &[u8; 256],
+) -> Inferred
+    requires { ⌜ WellFormed (lists table) × Closed (lists table) × (6280 ≤ length (now buffer)) × Solves (lists table) (codesOf (now variables) (now «param_words») (now «param_shapes») (now «row_words») (now «row_shapes»)) Answer.Placed ⌝ }
+    ensures { λ r. ⌜ Infers (lists table) (now (buffer .entry)) (outcome r (now (buffer .exit))) ⌝ }
+{
+    let params = table.params;
+    match floors::lowest_missed(params, table.parameters(), param_words) {
+        Missed::At(p) => refusal(24, p),
+        Missed::Nowhere => {
             let size = report::write(
                 buffer,
-                &variables,
-                &param_words,
-                &param_shapes,
-                &row_words,
-                &row_shapes,
+                variables,
+                param_words,
+                param_shapes,
+                row_words,
+                row_shapes,
                 table.parameters(),
                 table.term_rows(),
             );
@@ -94,7 +125,6 @@ fn place(table: Table, buffer: &mut [u8]) -> Inferred
                 size,
             }
         }
-        Answer::Refused(number, row) => refusal(number as u16, row),
     }
 }
 

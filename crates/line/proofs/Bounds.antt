@@ -1,4 +1,4 @@
--- How large the values are that the definitions of a number, a qualifier, a scheme and an operation give.
+-- How large the values are that the definitions of a number, a qualifier, a floor, a scheme and an operation give.
 use Prim.Native.Nat.{ℕ, _+_, _≤_, _<_}
 use native.Mathlib.Nat.{le-of-lt}
 use native.Mathlib.Omega.{arith}
@@ -10,11 +10,12 @@ use lib.ListN.{length}
 use mir.Syntax.{Width}
 use mir.Val.{Fits}
 use mir.Facts.{fits-le}
-use borrow.Author.Tests.{leb-true}
+use borrow.Author.Tests.{leb-true, eqb-true}
 use Rattle.scheme.proofs.Every.{and-right}
 use Rattle.model.specs.Lists.{allOf}
 use Rattle.model.specs.Number.{isDigit, valueFrom, noLeadingZero, numberOf}
-use Rattle.model.specs.Word.{spells, placeIn, qualifierWords, operationWords, schemeWords, orElse, variableCode, variableOf, qualifierOf, schemeOf, operationOf}
+use Rattle.model.specs.Word.{spells, placeIn, qualifierWords, operationWords, schemeWords, orElse, variableCode, wordOf, variableOf, qualifierOf, schemeOf, operationOf}
+use Rattle.model.specs.Line.{fields, field, floor}
 use Rattle.model.specs.declared.Field.{Field}
 use Rattle.model.specs.declared.Field.the-variants.{Value, NoValue}
 
@@ -46,6 +47,10 @@ place-between c (word ∷ words) s n e = by (spells s word) e (place-between (c 
     by true p q = let v : c ≡ n = cc in (omega arith, omega arith)
     by false p q = let r : (c + 1 ≤ n) × (n < c + 1 + length words) = q p in (omega arith, omega arith)
 
+pub word-at-most : (s : List ℕ) (c : ℕ) → wordOf s ≡ Value c → c ≤ 6
+unfolding wordOf
+word-at-most s c e = let r : c < 7 = place-between 0 qualifierWords s c e .1 in omega arith
+
 pub scheme-between : (s : List ℕ) (c : ℕ) → schemeOf s ≡ Value c → (1 ≤ c) × (c ≤ 6)
 unfolding schemeOf
 scheme-between s c e = let r : (1 ≤ c) × (c < 7) = place-between 1 schemeWords s c e in (r .0, omega arith)
@@ -65,11 +70,26 @@ variable-at-most (b ∷ bs) c e = go (eqb b 103) (numberOf 63 bs) refl e
 
 pub qualifier-at-most : (s : List ℕ) (c : ℕ) → qualifierOf s ≡ Value c → c ≤ 70
 unfolding qualifierOf
-qualifier-at-most s c e = go (placeIn 0 qualifierWords s) refl e
+qualifier-at-most s c e = go (wordOf s) refl e
   where
-    go : (f : Field) → placeIn 0 qualifierWords s ≡ f → orElse f (variableOf s) ≡ Value c → c ≤ 70
-    go (Value n) p q = let v : n ≡ c = cc in omega (arith, place-between 0 qualifierWords s n p .1)
+    go : (f : Field) → wordOf s ≡ f → orElse f (variableOf s) ≡ Value c → c ≤ 70
+    go (Value n) p q = let v : n ≡ c = cc in omega (arith, word-at-most s n p)
     go NoValue p q = variable-at-most s c q
+
+-- A floor is PLAIN in a line of four fields, or the word that stands last of five.
+pub floor-cases : {P : Type 0} (s : List ℕ) (c : ℕ) → floor s ≡ Value c →
+    (length (fields s) ≡ 4 → 0 ≡ c → P) → (length (fields s) ≡ 5 → wordOf (field s 4) ≡ Value c → P) → P
+unfolding floor
+floor-cases {P} s c e left-out word = go (eqb (length (fields s)) 4) (eqb (length (fields s)) 5) refl refl e
+  where
+    go : (four five : Bool) → eqb (length (fields s)) 4 ≡ four → eqb (length (fields s)) 5 ≡ five →
+        cond four (Value 0) (cond five (wordOf (field s 4)) NoValue) ≡ Value c → P
+    go true five p p′ q = left-out (eqb-true (length (fields s)) 4 p) (cc)
+    go false true p p′ q = word (eqb-true (length (fields s)) 5 p′) q
+    go false false p p′ q = none-is-none c q
+
+pub floor-at-most : (s : List ℕ) (c : ℕ) → floor s ≡ Value c → c ≤ 6
+floor-at-most s c e = floor-cases s c e (λ four plain. omega arith) (λ five word. word-at-most (field s 4) c word)
 
 -- So what was read fits where its largest value does: each cast of a value that was read is closed by `search (fits, needs)`.
 read-fits : {w : Width} {x r : Field} {n m : ℕ} → r ≡ x → r ≡ Value n → (x ≡ Value n → n ≤ m) → Fits w m → Fits w n
@@ -82,10 +102,13 @@ module _ (w : Width) (s : List ℕ) (r : Field) (n : ℕ) (v : r ≡ Value n) wh
   pub qualifier-fits : r ≡ qualifierOf s → Fits w 70 → Fits w n
   qualifier-fits e = read-fits e v (qualifier-at-most s n)
 
+  pub floor-fits : r ≡ floor s → Fits w 6 → Fits w n
+  floor-fits e = read-fits e v (floor-at-most s n)
+
   pub scheme-fits : r ≡ schemeOf s → Fits w 6 → Fits w n
   scheme-fits e = read-fits e v (λ p. scheme-between s n p .1)
 
   pub operation-fits : r ≡ operationOf s → Fits w 5 → Fits w n
   operation-fits e = read-fits e v (λ p. le-of-lt (operation-below s n p))
 
-pub ruleset fits = (number-fits, qualifier-fits, scheme-fits, operation-fits)
+pub ruleset fits = (number-fits, qualifier-fits, floor-fits, scheme-fits, operation-fits)

@@ -10,7 +10,7 @@ use borrow.Author.Tests.{le-leb, ne-eqb, ltb-true, ltb-false, eqb-true}
 use Rattle.scheme.proofs.Every.{every-at, and-left, and-right, and-both}
 use Rattle.model.specs.Lists.{allOf}
 use Rattle.model.specs.Number.{isDigit, valueFrom, noLeadingZero, numberOf, digits, decimal}
-use Rattle.model.specs.Word.{variableCode, qualifierOf, qualifierWord}
+use Rattle.model.specs.Word.{variableCode, wordOf, qualifierOf, qualifierWord}
 use Rattle.model.specs.declared.Field.{Field}
 use Rattle.model.specs.declared.Field.the-variants.{Value, NoValue}
 
@@ -86,11 +86,15 @@ unfolding isValue
 is-value c (Value n) e = ap Value (eqb-true n c e)
 is-value c NoValue e = let z : _≡_ {A = ℕ} 0 1 = cc in absurd (omega arith)
 
+pub word-of-word : (c : ℕ) → c < 7 → wordOf (qualifierWord c) ≡ Value c
+unfolding wordOf qualifierWord isValue
+word-of-word c h = is-value c (wordOf (qualifierWord c)) (every-at 7 (λ k. isValue k (wordOf (qualifierWord k))) refl c h)
+
 pub qualifier-of-word : (c : ℕ) → c < 7 → qualifierOf (qualifierWord c) ≡ Value c
-unfolding qualifierOf qualifierWord isValue
-qualifier-of-word c h = is-value c (qualifierOf (qualifierWord c)) (every-at 7 (λ k. isValue k (qualifierOf (qualifierWord k))) refl c h)
+unfolding qualifierOf
+qualifier-of-word c h = simp (word-of-word c h)
 
 -- No word begins with `g`, so what does is a named variable.
 pub qualifier-of-variable : (k : ℕ) → k ≤ 63 → qualifierOf (103 ∷ decimal k) ≡ Value (k + 7)
-unfolding qualifierOf
+unfolding qualifierOf wordOf
 qualifier-of-variable k h = ap variableCode (number-of-decimal 63 k h)

@@ -63,13 +63,10 @@ pub(crate) fn arrow_line(s: &[u8]) -> Line
     )
 }
 
-// `P,p,q,t`
+// `P,p,q,t` or `P,p,q,t,floor`
 pub(crate) fn param_line(s: &[u8]) -> Line
     ensures { λ r. ⌜ r ≡ paramLine (now (s .entry)) ⌝ }
 {
-    if fields::count(s) != 4 {
-        return Line::NoForm;
-    }
     let Field::Value(p) = values::number(s, 1) else {
         return Line::NoForm;
     };
@@ -79,10 +76,14 @@ pub(crate) fn param_line(s: &[u8]) -> Line
     let Field::Value(t) = values::number(s, 3) else {
         return Line::NoForm;
     };
+    let Field::Value(floor) = values::floor(s) else {
+        return Line::NoForm;
+    };
     Line::ParamLine(
         p as u16,
         Param {
             qualifier: q as u8,
+            floor: floor as u8,
             typerow: t as u16,
         },
     )

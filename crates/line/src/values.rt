@@ -1,6 +1,6 @@
 // What stands in field k of a line: a number, a word's code, or a given word.
 ghost use mathlib.Core.Path.{_≡_};
-ghost use Rattle.model.specs.Line.{number, literal, qualifier, scheme, operation, kind, tag};
+ghost use Rattle.model.specs.Line.{number, literal, qualifier, floor, scheme, operation, kind, tag};
 use crate::fields;
 use crate::numbers;
 use crate::words;
@@ -25,6 +25,20 @@ pub(crate) fn qualifier(s: &[u8], k: usize) -> Field
     ensures { λ r. ⌜ r ≡ qualifier (now (s .entry)) k ⌝ }
 {
     words::qualifier_in(fields::field(s, k))
+}
+
+// A parameter's floor, the code of a word: PLAIN in a line of four fields, the last field of five.
+pub(crate) fn floor(s: &[u8]) -> Field
+    ensures { λ r. ⌜ r ≡ floor (now (s .entry)) ⌝ }
+{
+    let n = fields::count(s);
+    if n == 4 {
+        return Field::Value(0);
+    }
+    if n == 5 {
+        return words::word_in(fields::field(s, 4));
+    }
+    Field::NoValue
 }
 
 // A scheme's code: 1 to 6.

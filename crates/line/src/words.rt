@@ -4,7 +4,7 @@ ghost use Prim.Native.Nat.{_+_, _≤_};
 ghost use lib.ListN.{length};
 ghost use Rattle.model.specs.Lists.{same};
 ghost use Rattle.model.specs.Line.{fields};
-ghost use Rattle.model.specs.Word.{spells, placeIn, variableOf, qualifierOf, schemeOf, operationOf};
+ghost use Rattle.model.specs.Word.{spells, placeIn, wordOf, variableOf, qualifierOf, schemeOf, operationOf};
 use crate::fields;
 use crate::numbers;
 use model::Field;
@@ -49,6 +49,13 @@ fn place_in(s: &[u8], words: &[u8], first: u32) -> Field
     Field::NoValue
 }
 
+// One of the seven qualifier words: 0 to 6.
+pub(crate) fn word_in(s: &[u8]) -> Field
+    ensures { λ r. ⌜ r ≡ wordOf (now (s .entry)) ⌝ }
+{
+    place_in(s, b"PLAIN,FHE,OP,DET,MH,AH,RAND", 0)
+}
+
 // One of the six schemes: 1 to 6.
 pub(crate) fn scheme_in(s: &[u8]) -> Field
     ensures { λ r. ⌜ r ≡ schemeOf (now (s .entry)) ⌝ }
@@ -83,7 +90,7 @@ fn variable_in(s: &[u8]) -> Field
 pub(crate) fn qualifier_in(s: &[u8]) -> Field
     ensures { λ r. ⌜ r ≡ qualifierOf (now (s .entry)) ⌝ }
 {
-    match place_in(s, b"PLAIN,FHE,OP,DET,MH,AH,RAND", 0) {
+    match word_in(s) {
         Field::Value(c) => Field::Value(c),
         Field::NoValue => variable_in(s),
     }

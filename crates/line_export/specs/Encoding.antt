@@ -28,7 +28,7 @@ termNumbers i (Enc e n) = 10 ∷ i ∷ e ∷ n ∷ 0 ∷ 0 ∷ []
 
 abbrev pub numbers : Line → List ℕ
 numbers (TypeLine i form) = typeNumbers i form
-numbers (ParamLine p param) = 4 ∷ p ∷ param .qualifier ∷ param .typerow ∷ 0 ∷ 0 ∷ []
+numbers (ParamLine p param) = 4 ∷ p ∷ param .qualifier ∷ param .typerow ∷ param .floor ∷ 0 ∷ []
 numbers (TermLine i term) = termNumbers i term
 numbers NoForm = 0 ∷ 0 ∷ 0 ∷ 0 ∷ 0 ∷ 0 ∷ []
 

@@ -41,7 +41,7 @@ fn line_numbers(line: Line) -> [u32; 6]
             p as u32,
             param.qualifier as u32,
             param.typerow as u32,
-            0,
+            param.floor as u32,
             0,
         ],
         Line::TermLine(i, term) => term_numbers(i as u32, term),

@@ -38,6 +38,7 @@ fn show_param(p: u16, param: Param) {
     number(p as u32);
     number(param.qualifier as u32);
     number(param.typerow as u32);
+    number(param.floor as u32);
 }
 
 fn show_term(i: u16, term: Term) {

@@ -17,10 +17,10 @@ infers-same (short h) (short h′) = refl
 infers-same (short h) (refused h′ j n) = let z : ⊥ = omega arith in absurd z
 infers-same (short h) (accepted h′ j) = let z : ⊥ = omega arith in absurd z
 infers-same (refused h j n) (short h′) = let z : ⊥ = omega arith in absurd z
-infers-same {buffer = buffer} (refused h j n) (refused h′ j′ n′) = let e = judged-same six _ j j′ in cc (e .0, e .1)
-infers-same (refused h j n) (accepted h′ j′) = absurd (n (judged-same six _ j j′ .0))
+infers-same {buffer = buffer} (refused h j n) (refused h′ j′ n′) = let e = judged-same six six-lawful _ j j′ in cc (e .0, e .1)
+infers-same (refused h j n) (accepted h′ j′) = absurd (n (judged-same six six-lawful _ j j′ .0))
 infers-same (accepted h j) (short h′) = let z : ⊥ = omega arith in absurd z
-infers-same (accepted h j) (refused h′ j′ n) = absurd (n (judged-same six _ j′ j .0))
+infers-same (accepted h j) (refused h′ j′ n) = absurd (n (judged-same six six-lawful _ j′ j .0))
 infers-same {m} {buffer} (accepted h j) (accepted h′ j′) =
     let a = judged-accepted j refl in
     let a′ = judged-accepted j′ refl in

@@ -1,17 +1,17 @@
--- Lines of document 01, computed: the number that the definitions give each.
+-- Lines of documents 01 and 02, computed: the number that the definitions give each.
 use Prim.Native.Nat.{ℕ}
 use Prim.Native.String.{String}
 use mathlib.Core.List.{List, [], _∷_, map}
 use mathlib.Core.Path.{_≡_, refl}
 use Rattle.model.specs.Lists.{bytes}
 use Rattle.model.specs.Number.{numberOf}
-use Rattle.model.specs.Word.{qualifierOf, schemeOf, operationOf}
-use Rattle.model.specs.Line.{given, choose, exactly, intLine, anyLine, arrowLine, paramLine, lamLine, appLine, opLine, varLine, numLine, encLine, typeLine, leafLine, termLine, lineOf}
+use Rattle.model.specs.Word.{wordOf, qualifierOf, schemeOf, operationOf}
+use Rattle.model.specs.Line.{floor, given, choose, exactly, intLine, anyLine, arrowLine, paramLine, lamLine, appLine, opLine, varLine, numLine, encLine, typeLine, leafLine, termLine, lineOf}
 use Rattle.model.specs.Machine.{Machine, Change, freshMachine, firstFailing, typeRefusal, paramRefusal, termRefusal, settled, entered, added}
 
 -- An add, with all that it rests on open to computing.
 adding : Machine → String → Change
-unfolding added lineOf typeLine leafLine termLine intLine anyLine arrowLine paramLine lamLine appLine opLine varLine numLine encLine given choose exactly numberOf qualifierOf schemeOf operationOf entered settled firstFailing typeRefusal paramRefusal termRefusal
+unfolding added lineOf typeLine leafLine termLine intLine anyLine arrowLine paramLine lamLine appLine opLine varLine numLine encLine given choose exactly numberOf wordOf qualifierOf floor schemeOf operationOf entered settled firstFailing typeRefusal paramRefusal termRefusal
 adding m text = added m (bytes text)
 
 -- The numbers that the adds of lines in turn return.
@@ -30,7 +30,9 @@ lines-in-turn =
     ∷ ("T,1,ARROW,AH,0,g63,0", 0)
     ∷ ("P,0,g64,0", 1)
     ∷ ("P,0,RAND,2", 4)
-    ∷ ("P,0,RAND,0", 0)
+    ∷ ("P,0,RAND,0,g0", 1)
+    ∷ ("P,0,RAND,0,AH,AH", 1)
+    ∷ ("P,0,RAND,0,AH", 0)
     ∷ ("E,0,VAR,1", 5)
     ∷ ("E,0,ENC,PLAIN,1", 1)
     ∷ ("E,0,NUM,4294967296", 1)

@@ -31,11 +31,11 @@ pub shown-same : {m : Machine} {buffer buffer′ : List ℕ} {o o′ : Outcome} 
 shown-same long long′ (short h) i′ = absurd (omega arith)
 shown-same long long′ (refused h j n) (short h′) = absurd (omega arith)
 shown-same {buffer = buffer} {buffer′} long long′ (refused {number} {k} h j n) (refused {number = number′} {k = k′} h′ j′ n′) =
-    let e = judged-same six _ j j′ in
+    let e = judged-same six six-lawful _ j j′ in
     shown-refused number k 0 buffer n ∙ ap₂ (λ (a b : ℕ). line (bytes "NO" ∷ decimal a ∷ decimal b ∷ [])) (e .0) (e .1) ∙ sym (shown-refused number′ k′ 0 buffer′ n′)
-shown-same long long′ (refused h j n) (accepted h′ j′) = absurd (n (judged-same six _ j j′ .0))
+shown-same long long′ (refused h j n) (accepted h′ j′) = absurd (n (judged-same six six-lawful _ j j′ .0))
 shown-same long long′ (accepted h j) (short h′) = absurd (omega arith)
-shown-same long long′ (accepted h j) (refused h′ j′ n) = absurd (n (judged-same six _ j′ j .0))
+shown-same long long′ (accepted h j) (refused h′ j′ n) = absurd (n (judged-same six six-lawful _ j′ j .0))
 shown-same {m} {buffer} {buffer′} long long′ (accepted {word} {shape} h j) (accepted {word = word′} {shape = shape′} h′ j′) =
     let a = judged-accepted j refl in
     let a′ = judged-accepted j′ refl in

@@ -1,4 +1,4 @@
--- Two answers of one call on one machine are the same: a refusal's row is the least, and words are greatest and attained.
+-- Two answers of one call on one machine are the same: a refusal's row or parameter is the least, and words are greatest and attained.
 use Prim.Native.Nat.{ℕ, zero, suc, _+_, _≤_, _<_}
 use native.Mathlib.Omega.{arith}
 use native.Mathlib.Decide.{ℕ-discrete, decLt}
@@ -10,7 +10,7 @@ use Rattle.model.specs.Machine.{Machine, added, redeclared, takenBack}
 use Rattle.model.specs.Closed.{Closed}
 use Rattle.model.specs.Typing.{Ty, Assignment, Typing, Typable}
 use Rattle.model.specs.Strength.{Schemes, whole, unordered, erased, six}
-use Rattle.model.specs.Inference.{Cause, shapes, qualifiers, bounds, Refusal, Slot, variable, param, row, Listed, qualifierOf, typeOf, IsInt, is-int, IsArrow, is-arrow, Shape, Types, ShapeSays, GreatestTyping, Judged, not-closed, not-typable, typed, mentions}
+use Rattle.model.specs.Inference.{Cause, shapes, qualifiers, bounds, Refusal, Slot, variable, param, row, Listed, qualifierOf, typeOf, IsInt, is-int, IsArrow, is-arrow, Shape, Types, ShapeSays, GreatestTyping, MeetsFloor, WordMeetsFloor, FloorsMet, FloorMissed, Judged, not-closed, not-typable, below-floor, typed, mentions}
 use Rattle.model.specs.Report.{report, lines, variableLine, paramLine, rowLine}
 use Rattle.model.proofs.Fewer.{typable-fewer}
 use Rattle.model.proofs.Weaker.{weaker-rules, whole-unordered, unordered-erased}
@@ -47,7 +47,7 @@ module _ (S : Schemes) (m : Machine) where
       let e : k ≡ k′ = omega (arith, not-later r r′, not-later r′ r) in
       (cause-same S m (k + 1) (r .cause) (subst (λ (j : ℕ). Cause S m (j + 1) n′) (sym e) (r′ .cause)), e)
 
-  -- An accepted program has a typing, so no row of it is refused.
+  -- A program that has a typing is refused at no row.
   typed-not-refused : {word : Slot → ℕ} {shape : Slot → Shape} {n k : ℕ} → GreatestTyping S m word shape → Refusal S m n k → ⊥
   typed-not-refused a r = r .none (typable-fewer {k = length (m .terms)} (omega (arith, r .in-list)) (a .together .0, a .together .1))
 
@@ -92,18 +92,36 @@ module _ (S : Schemes) (lawful : Lawful S) (m : Machine) {word word′ : Slot �
   pub shapes-same : (x : Slot) → Listed S m x → shape x ≡ shape′ x
   shapes-same x l = shape-same S m x _ _ (a .together .0, a .together .1) (a .shaped x l) (a′ .shaped x l)
 
--- What is judged of a machine is the number and the row, and for each listed slot the word and the shape.
-pub judged-same : (S : Schemes) (m : Machine) {n n′ k k′ : ℕ} {word word′ : Slot → ℕ} {shape shape′ : Slot → Shape} →
+  -- So both meet the same floors, and neither names a later parameter than the other.
+  floor-met : (p : ℕ) → p < length (m .params) → WordMeetsFloor S m word p → WordMeetsFloor S m word′ p
+  floor-met p l = subst (λ (c : ℕ). MeetsFloor S m p (S .word c)) (word-same (param p) l)
+
+  missed-not-later : {p p′ : ℕ} → FloorMissed S m word p → FloorMissed S m word′ p′ → p ≤ p′
+  missed-not-later {p} {p′} f f′ = go (decLt p′ p)
+    where
+      go : Dec (p′ < p) → p ≤ p′
+      go (yes h) = absurd (f′ .missed (floor-met p′ (f′ .declared) (f .before p′ h)))
+      go (no h) = omega arith
+
+-- What is judged of a machine is the number and the row or parameter, and for each listed slot the word and the shape.
+pub judged-same : (S : Schemes) → Lawful S → (m : Machine) {n n′ k k′ : ℕ} {word word′ : Slot → ℕ} {shape shape′ : Slot → Shape} →
     Judged S m n k word shape → Judged S m n′ k′ word′ shape′ → (n ≡ n′) × (k ≡ k′)
-judged-same S m (not-closed no-closed) (not-closed no-closed′) = (refl, refl)
-judged-same S m (not-closed no-closed) (not-typable closed r) = absurd (no-closed closed)
-judged-same S m (not-closed no-closed) (typed closed a) = absurd (no-closed closed)
-judged-same S m (not-typable closed r) (not-closed no-closed) = absurd (no-closed closed)
-judged-same S m (not-typable closed r) (not-typable closed′ r′) = refusal-same S m r r′
-judged-same S m (not-typable closed r) (typed closed′ a) = absurd (typed-not-refused S m a r)
-judged-same S m (typed closed a) (not-closed no-closed) = absurd (no-closed closed)
-judged-same S m (typed closed a) (not-typable closed′ r) = absurd (typed-not-refused S m a r)
-judged-same S m (typed closed a) (typed closed′ a′) = (refl, refl)
+judged-same S lawful m (not-closed no-closed) (not-closed no-closed′) = (refl, refl)
+judged-same S lawful m (not-closed no-closed) (not-typable closed r) = absurd (no-closed closed)
+judged-same S lawful m (not-closed no-closed) (below-floor closed a f) = absurd (no-closed closed)
+judged-same S lawful m (not-closed no-closed) (typed closed a met) = absurd (no-closed closed)
+judged-same S lawful m (not-typable closed r) (not-closed no-closed) = absurd (no-closed closed)
+judged-same S lawful m (not-typable closed r) (not-typable closed′ r′) = refusal-same S m r r′
+judged-same S lawful m (not-typable closed r) (below-floor closed′ a f) = absurd (typed-not-refused S m a r)
+judged-same S lawful m (not-typable closed r) (typed closed′ a met) = absurd (typed-not-refused S m a r)
+judged-same S lawful m (below-floor closed a f) (not-closed no-closed) = absurd (no-closed closed)
+judged-same S lawful m (below-floor closed a f) (not-typable closed′ r) = absurd (typed-not-refused S m a r)
+judged-same S lawful m (below-floor closed a f) (below-floor closed′ a′ f′) = (refl, omega (arith, missed-not-later S lawful m a a′ f f′, missed-not-later S lawful m a′ a f′ f))
+judged-same S lawful m (below-floor {p = p} closed a f) (typed closed′ a′ met) = absurd (f .missed (floor-met S lawful m a′ a p (f .declared) (met p (f .declared))))
+judged-same S lawful m (typed closed a met) (not-closed no-closed) = absurd (no-closed closed)
+judged-same S lawful m (typed closed a met) (not-typable closed′ r) = absurd (typed-not-refused S m a r)
+judged-same S lawful m (typed closed a met) (below-floor {p = p} closed′ a′ f) = absurd (f .missed (floor-met S lawful m a a′ p (f .declared) (met p (f .declared))))
+judged-same S lawful m (typed closed a met) (typed closed′ a′ met′) = (refl, refl)
 
 -- No cause has the number 0.
 cause-number : {S : Schemes} {m : Machine} {k n : ℕ} → Cause S m k n → n ≡ 0 → ⊥
@@ -111,11 +129,18 @@ cause-number (shapes no-erased) e = omega arith
 cause-number (qualifiers some-erased no-unordered) e = omega arith
 cause-number (bounds some) e = omega arith
 
--- The number 0 is of accepted programs alone.
+-- The number 0 is of programs alone that have typings, of which the greatest meets every floor.
+judged-typed : {S : Schemes} {m : Machine} {n k : ℕ} {word : Slot → ℕ} {shape : Slot → Shape} → Judged S m n k word shape → n ≡ 0 → GreatestTyping S m word shape × FloorsMet S m word
+judged-typed (not-closed no-closed) e = let z : ⊥ = omega arith in absurd z
+judged-typed (not-typable closed r) e = absurd (cause-number (r .cause) e)
+judged-typed (below-floor closed a f) e = let z : ⊥ = omega arith in absurd z
+judged-typed (typed closed a met) e = (a, met)
+
 pub judged-accepted : {S : Schemes} {m : Machine} {n k : ℕ} {word : Slot → ℕ} {shape : Slot → Shape} → Judged S m n k word shape → n ≡ 0 → GreatestTyping S m word shape
-judged-accepted (not-closed no-closed) e = let z : ⊥ = omega arith in absurd z
-judged-accepted (not-typable closed r) e = absurd (cause-number (r .cause) e)
-judged-accepted (typed closed a) e = a
+judged-accepted j e = judged-typed j e .0
+
+pub judged-floors : {S : Schemes} {m : Machine} {n k : ℕ} {word : Slot → ℕ} {shape : Slot → Shape} → Judged S m n k word shape → n ≡ 0 → FloorsMet S m word
+judged-floors j e = judged-typed j e .1
 
 -- Lines that agree at each number are the same text.
 lines-same : (f g : ℕ → List ℕ) (i n : ℕ) → ((k : ℕ) → i ≤ k → k < i + n → f k ≡ g k) → lines f i n ≡ lines g i n

@@ -1,5 +1,5 @@
 -- What inference answers of a machine, said by typings alone.
--- Document 01, "Typings" and "The report".
+-- Document 01, "Typings" and "The report"; document 02, a).
 use Prim.Native.Nat.{ℕ, _+_, _<_}
 use mathlib.Core.Bool.{Bool, true, _||_}
 use mathlib.Core.List.{List, [], _∷_}
@@ -7,7 +7,7 @@ use mathlib.Core.Path.{_≡_}
 use lib.Dec.{eqb}
 use lib.ListN.{length}
 use Rattle.model.specs.Lists.{anyOf, contains}
-use Rattle.model.specs.Machine.{Machine}
+use Rattle.model.specs.Machine.{Machine, paramAt}
 use Rattle.model.specs.Closed.{Closed}
 use Rattle.model.specs.Typing.{Ty, Assignment, Typing, Typable}
 use Rattle.model.specs.Strength.{Schemes, whole, unordered, erased}
@@ -93,8 +93,30 @@ pub record GreatestTyping (S : Schemes) (m : Machine) (word : Slot → ℕ) (sha
       × ((x : Slot) → Listed S m x → qualifierOf s x ≡ S .word (word x))
       × ((x : Slot) → Listed S m x → shape x ≡ Shape.any → IsInt (typeOf s x))
 
--- What is judged of a machine: "10, then 21 to 23", else the words and shapes; with the row, 0 outside 21 to 23.
+-- Document 02, a): a scheme of parameter p is "at or above the floor". Floors are no part of a typing.
+abbrev pub MeetsFloor : (S : Schemes) → Machine → ℕ → S .Q → Type 0
+MeetsFloor S m p q = S .AtOrBelow (S .word (paramAt m p .floor)) q
+
+-- "the scheme meant is the one that the greatest typing gives": the parameter's word.
+abbrev pub WordMeetsFloor : Schemes → Machine → (Slot → ℕ) → ℕ → Type 0
+WordMeetsFloor S m word p = MeetsFloor S m p (S .word (word (param p)))
+
+-- "the greatest typing meets every floor"
+abbrev pub FloorsMet : Schemes → Machine → (Slot → ℕ) → Type 0
+FloorsMet S m word = (p : ℕ) → p < length (m .params) → WordMeetsFloor S m word p
+
+-- "the lowest such parameter's number": the first whose reported scheme "isn't at or above the floor".
+pub record FloorMissed (S : Schemes) (m : Machine) (word : Slot → ℕ) (p : ℕ) : Type 0 where
+  pub declared : p < length (m .params)
+  pub before : (r : ℕ) → r < p → WordMeetsFloor S m word r
+  pub missed : ¬ WordMeetsFloor S m word p
+
+-- What is judged of a machine: "10, then 21 to 23", then 24 of document 02, a), else the words and shapes; with the row, or for 24 the
+-- parameter, 0 outside 21 to 24.
 pub data Judged (S : Schemes) (m : Machine) : ℕ → ℕ → (Slot → ℕ) → (Slot → Shape) → Type 0 where
   not-closed : {word : Slot → ℕ} {shape : Slot → Shape} → ¬ Closed m → Judged S m 10 0 word shape
   not-typable : {number k : ℕ} {word : Slot → ℕ} {shape : Slot → Shape} → Closed m → Refusal S m number k → Judged S m number k word shape
-  typed : {word : Slot → ℕ} {shape : Slot → Shape} → Closed m → GreatestTyping S m word shape → Judged S m 0 0 word shape
+  -- "A program that has typings, but whose reported scheme for some parameter isn't at or above the floor, is turned down."
+  below-floor : {p : ℕ} {word : Slot → ℕ} {shape : Slot → Shape} → Closed m → GreatestTyping S m word shape → FloorMissed S m word p → Judged S m 24 p word shape
+  -- "otherwise it accepts exactly when the greatest typing meets every floor"
+  typed : {word : Slot → ℕ} {shape : Slot → Shape} → Closed m → GreatestTyping S m word shape → FloorsMet S m word → Judged S m 0 0 word shape

@@ -1,5 +1,5 @@
 -- Which bytes are which line.
--- Document 01, "Lines and the table".
+-- Document 01, "Lines and the table"; document 02, a).
 use Prim.Native.Nat.{ℕ}
 use mathlib.Core.Bool.{Bool, true, false, cond}
 use mathlib.Core.List.{List, [], _∷_}
@@ -7,7 +7,7 @@ use lib.Dec.{eqb, leb}
 use lib.ListN.{length, getD}
 use Rattle.model.specs.Lists.{same, bytes}
 use Rattle.model.specs.Number.{numberOf}
-use Rattle.model.specs.Word.{spells, qualifierOf, schemeOf, operationOf}
+use Rattle.model.specs.Word.{spells, wordOf, qualifierOf, schemeOf, operationOf}
 use Rattle.model.specs.declared.Field.{Field}
 use Rattle.model.specs.declared.Field.the-variants.{Value, NoValue}
 use Rattle.model.specs.declared.TypeForm.the-variants.{Int, Any, Arrow}
@@ -39,6 +39,10 @@ literal s k = numberOf 4294967295 (field s k)
 
 abbrev pub qualifier : List ℕ → ℕ → Field
 qualifier s k = qualifierOf (field s k)
+
+-- Document 02, a): "A P line may carry a fifth field, one of the seven qualifier words; four fields mean PLAIN." Any other count has no floor.
+unfoldable pub floor : List ℕ → Field
+floor s = cond (eqb (length (fields s)) 4) (Value 0) (cond (eqb (length (fields s)) 5) (wordOf (field s 4)) NoValue)
 
 abbrev pub scheme : List ℕ → ℕ → Field
 scheme s k = schemeOf (field s k)
@@ -74,9 +78,11 @@ arrowLine s =
     (given (number s 1) λ i. given (qualifier s 3) λ q. given (number s 4) λ t. given (qualifier s 5) λ q′. given (number s 6) λ t′.
     TypeLine i (Arrow q t q′ t′))
 
--- `P,p,q,t`
+-- `P,p,q,t` or `P,p,q,t,floor`
 unfoldable pub paramLine : List ℕ → Line
-paramLine s = exactly 4 s (given (number s 1) λ p. given (qualifier s 2) λ q. given (number s 3) λ t. ParamLine p (record { qualifier = q; typerow = t }))
+paramLine s =
+    given (number s 1) λ p. given (qualifier s 2) λ q. given (number s 3) λ t. given (floor s) λ f.
+    ParamLine p (record { qualifier = q; floor = f; typerow = t })
 
 -- `E,i,LAM,p,b`
 unfoldable pub lamLine : List ℕ → Line

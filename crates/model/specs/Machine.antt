@@ -32,7 +32,7 @@ abbrev pub noTypeRow : TypeRow
 noTypeRow = record { form = Int }
 
 abbrev pub noParam : Param
-noParam = record { qualifier = 0; typerow = 0 }
+noParam = record { qualifier = 0; floor = 0; typerow = 0 }
 
 abbrev pub noTermRow : TermRow
 noTermRow = record { term = Lam 0 0 }
@@ -160,9 +160,9 @@ entered m NoForm = settled m 1 m
 unfoldable pub added : Machine → List ℕ → Change
 added m line = entered m (lineOf line)
 
--- "replaces that parameter's qualifier"
+-- "replaces that parameter's qualifier"; document 02, a), of the floor: "redeclare leaves it".
 abbrev pub withQualifier : ℕ → Param → Param
-withQualifier code param = record { qualifier = code; typerow = param .typerow }
+withQualifier code param = record { qualifier = code; floor = param .floor; typerow = param .typerow }
 
 -- **Redeclare** (parameter, code 0 to 70); "redeclare 5, then 12".
 unfoldable pub redeclared : Machine → ℕ → ℕ → Change

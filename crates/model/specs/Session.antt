@@ -23,7 +23,7 @@ pub record Outcome : Type 0 where
   pub size : ℕ
   pub buffer : List ℕ
 
--- "The row outside 21 to 23, and the length of a refusal, are 0."
+-- "The row outside 21 to 23, and the length of a refusal, are 0"; document 02, a): 24 has a parameter's number "in the row's place".
 abbrev pub returning : ℕ → Outcome
 returning number = record { number = number; row = 0; size = 0; buffer = [] }
 
@@ -35,7 +35,7 @@ refusing number row buffer = record { number = number; row = row; size = 0; buff
 abbrev pub reporting : List ℕ → List ℕ → Outcome
 reporting text buffer = record { number = 0; row = 0; size = length text; buffer = text ++ drop (length text) buffer }
 
--- **Infer** (report buffer): "infer 11, 10, then 21 to 23"; 11: "report buffer shorter than 6,280 bytes".
+-- **Infer** (report buffer): "infer 11, 10, then 21 to 23", then 24; 11: "report buffer shorter than 6,280 bytes".
 pub data Infers (m : Machine) (buffer : List ℕ) : Outcome → Type 0 where
   short : length buffer < 6280 → Infers m buffer (refusing 11 0 buffer)
   refused : {number k : ℕ} {word : Slot → ℕ} {shape : Slot → Shape} →

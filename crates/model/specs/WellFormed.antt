@@ -19,9 +19,9 @@ TypeStands i Int = Unit {0}
 TypeStands i Any = Unit {0}
 TypeStands i (Arrow q t q′ t′) = (q ≤ 70) × (t < i) × (q′ ≤ 70) × (t′ < i)
 
--- A parameter has a qualifier by a code up to 70, and a type row that is declared.
+-- A parameter has a qualifier by a code up to 70, a type row that is declared, and a floor that is a word.
 abbrev pub ParamStands : ℕ → Param → Type 0
-ParamStands types param = (param .qualifier ≤ 70) × (param .typerow < types)
+ParamStands types param = (param .qualifier ≤ 70) × (param .typerow < types) × (param .floor ≤ 6)
 
 -- A term row names rows below its own number, parameters that are declared, one of the five operations, one of the six schemes.
 abbrev pub TermStands : ℕ → ℕ → Term → Type 0

@@ -42,9 +42,13 @@ abbrev pub variableOf : List ℕ → Field
 variableOf [] = NoValue
 variableOf (b ∷ bs) = cond (eqb b 103) (variableCode (numberOf 63 bs)) NoValue
 
+-- Document 02, a): "one of the seven qualifier words".
+unfoldable pub wordOf : List ℕ → Field
+wordOf s = placeIn 0 qualifierWords s
+
 -- "`q` is a qualifier word or `g0` to `g63`"
 unfoldable pub qualifierOf : List ℕ → Field
-qualifierOf s = orElse (placeIn 0 qualifierWords s) (variableOf s)
+qualifierOf s = orElse (wordOf s) (variableOf s)
 
 -- "`s` one of the six schemes": a qualifier word that is not PLAIN.
 abbrev pub schemeWords : List (List ℕ)

@@ -29,7 +29,7 @@ front-whole text h = sym (take-all 25025 text h)
 
 -- An infer call on what was loaded returns small numbers.
 pub bounded : (part buffer : List ℕ) (r : Loaded) (o : Inferred) (middle : List ℕ) → Loads part r → Infers (lists (r .table)) buffer (outcome o middle) →
-    (o .number ≤ 23) × (o .row ≤ 255) × (o .size ≤ 6280)
+    (o .number ≤ 24) × (o .row ≤ 255) × (o .size ≤ 6280)
 bounded part buffer r o middle loads infers = infers-bounded (well-formed-within _ (loads .well-formed)) infers
 
 -- The loader's entry, which looks at the part of the text that decides.

@@ -24,7 +24,7 @@ body-x-within s e =
 
 pub body-x-prints : PrintsOutput body-x
 unfolding loadOf reportOf
-body-x-prints = accepted-prints body-x body-x-machine refl refl rand int (rand-of int) (search depth 30) (search depth 30) body-x-within refl
+body-x-prints = accepted-prints body-x body-x-machine refl refl refl rand int (rand-of int) (search depth 30) (search depth 30) body-x-within refl
 
 abbrev x-applied-to-number-machine : Machine
 x-applied-to-number-machine = oneParameter 7 (Var 0 ∷ Num 3 ∷ App 0 1 ∷ Lam 0 2 ∷ [])
@@ -36,4 +36,4 @@ x-applied-to-number-within s e =
 
 pub x-applied-to-number-prints : PrintsOutput x-applied-to-number
 unfolding loadOf reportOf
-x-applied-to-number-prints = accepted-prints x-applied-to-number x-applied-to-number-machine refl refl rand (rand-of int) (rand-of (rand-of int)) (search depth 30) (search depth 30) x-applied-to-number-within refl
+x-applied-to-number-prints = accepted-prints x-applied-to-number x-applied-to-number-machine refl refl refl rand (rand-of int) (rand-of (rand-of int)) (search depth 30) (search depth 30) x-applied-to-number-within refl

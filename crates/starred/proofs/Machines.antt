@@ -2,6 +2,7 @@
 use Prim.Native.Nat.{ℕ}
 use mathlib.Core.List.{List, [], _∷_, map}
 use Rattle.model.specs.Machine.{Machine}
+use Rattle.model.specs.declared.Param.{Param}
 use Rattle.model.specs.declared.TermRow.{TermRow}
 use Rattle.model.specs.declared.Term.{Term}
 use Rattle.model.specs.declared.TypeForm.the-variants.{Any}
@@ -12,14 +13,18 @@ rows terms = map (λ term. record { term = term }) terms
 abbrev pub noParameter : List Term → Machine
 noParameter terms = record { types = []; params = []; terms = rows terms }
 
+-- A P line of four fields: its floor is PLAIN.
+abbrev parameter : ℕ → ℕ → Param
+parameter qualifier typerow = record { qualifier = qualifier; floor = 0; typerow = typerow }
+
 -- "parameters x, y with type ANY"
 abbrev pub oneParameter : ℕ → List Term → Machine
-oneParameter x terms = record { types = record { form = Any } ∷ []; params = record { qualifier = x; typerow = 0 } ∷ []; terms = rows terms }
+oneParameter x terms = record { types = record { form = Any } ∷ []; params = parameter x 0 ∷ []; terms = rows terms }
 
 abbrev pub twoParameters : ℕ → ℕ → List Term → Machine
 twoParameters x y terms =
     record {
       types = record { form = Any } ∷ record { form = Any } ∷ [];
-      params = record { qualifier = x; typerow = 0 } ∷ record { qualifier = y; typerow = 1 } ∷ [];
+      params = parameter x 0 ∷ parameter y 1 ∷ [];
       terms = rows terms;
     }

@@ -22,7 +22,7 @@ program-A-within s e = (cc, cc, cc plain-below-plain)
 
 pub program-A-prints : PrintsOutput program-A
 unfolding loadOf reportOf atOrBelow highestOf
-program-A-prints = accepted-prints program-A program-A-machine refl refl ah int int (search depth 30) (search depth 30) program-A-within refl
+program-A-prints = accepted-prints program-A program-A-machine refl refl refl ah int int (search depth 30) (search depth 30) program-A-within refl
 
 abbrev sum-times-x-machine : Machine
 sum-times-x-machine = oneParameter 7 (Var 0 ∷ Var 0 ∷ Op 0 0 1 ∷ Var 0 ∷ Op 1 2 3 ∷ Lam 0 4 ∷ [])
@@ -37,7 +37,7 @@ sum-times-x-within s e =
 
 pub sum-times-x-prints : PrintsOutput sum-times-x
 unfolding loadOf reportOf atOrBelow highestOf
-sum-times-x-prints = accepted-prints sum-times-x sum-times-x-machine refl refl fhe int int (search depth 30) (search depth 30) sum-times-x-within refl
+sum-times-x-prints = accepted-prints sum-times-x sum-times-x-machine refl refl refl fhe int int (search depth 30) (search depth 30) sum-times-x-within refl
 
 abbrev x-equals-x-machine : Machine
 x-equals-x-machine = oneParameter 7 (Var 0 ∷ Var 0 ∷ Op 2 0 1 ∷ Lam 0 2 ∷ [])
@@ -48,7 +48,7 @@ x-equals-x-within s e = (cc, cc, cc plain-below-plain)
 
 pub x-equals-x-prints : PrintsOutput x-equals-x
 unfolding loadOf reportOf atOrBelow highestOf
-x-equals-x-prints = accepted-prints x-equals-x x-equals-x-machine refl refl det int int (search depth 30) (search depth 30) x-equals-x-within refl
+x-equals-x-prints = accepted-prints x-equals-x x-equals-x-machine refl refl refl det int int (search depth 30) (search depth 30) x-equals-x-within refl
 
 abbrev x-less-than-x-machine : Machine
 x-less-than-x-machine = oneParameter 7 (Var 0 ∷ Var 0 ∷ Op 3 0 1 ∷ Lam 0 2 ∷ [])
@@ -59,7 +59,7 @@ x-less-than-x-within s e = (cc, cc, cc plain-below-plain)
 
 pub x-less-than-x-prints : PrintsOutput x-less-than-x
 unfolding loadOf reportOf atOrBelow highestOf
-x-less-than-x-prints = accepted-prints x-less-than-x x-less-than-x-machine refl refl op int int (search depth 30) (search depth 30) x-less-than-x-within refl
+x-less-than-x-prints = accepted-prints x-less-than-x x-less-than-x-machine refl refl refl op int int (search depth 30) (search depth 30) x-less-than-x-within refl
 
 abbrev x-plus-number-machine : Machine
 x-plus-number-machine = oneParameter 7 (Var 0 ∷ Num 7 ∷ Op 0 0 1 ∷ Lam 0 2 ∷ [])
@@ -70,7 +70,7 @@ x-plus-number-within s e = (cc plain-below-plain, cc plain-below-plain, cc plain
 
 pub x-plus-number-prints : PrintsOutput x-plus-number
 unfolding loadOf reportOf atOrBelow highestOf
-x-plus-number-prints = accepted-prints x-plus-number x-plus-number-machine refl refl plain int int (search depth 30) (search depth 30) x-plus-number-within refl
+x-plus-number-prints = accepted-prints x-plus-number x-plus-number-machine refl refl refl plain int int (search depth 30) (search depth 30) x-plus-number-within refl
 
 abbrev sum-of-comparisons-machine : Machine
 sum-of-comparisons-machine = twoParameters 7 8 (Var 0 ∷ Var 1 ∷ Op 3 0 1 ∷ Var 0 ∷ Var 1 ∷ Op 3 3 4 ∷ Op 0 2 5 ∷ Lam 1 6 ∷ Lam 0 7 ∷ [])
@@ -81,4 +81,4 @@ sum-of-comparisons-within s e = (cc, cc, cc plain-below-plain)
 
 pub sum-of-comparisons-prints : PrintsOutput sum-of-comparisons
 unfolding loadOf reportOf atOrBelow highestOf
-sum-of-comparisons-prints = accepted-prints sum-of-comparisons sum-of-comparisons-machine refl refl op int int (search depth 30) (search depth 30) sum-of-comparisons-within refl
+sum-of-comparisons-prints = accepted-prints sum-of-comparisons sum-of-comparisons-machine refl refl refl op int int (search depth 30) (search depth 30) sum-of-comparisons-within refl

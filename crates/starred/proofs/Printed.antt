@@ -5,16 +5,21 @@ use native.Mathlib.Omega.{arith}
 use mathlib.Core.Bool.{true}
 use mathlib.Core.List.{List, [], _∷_}
 use mathlib.Core.Path.{_≡_, subst}
+use lib.Dec.{eqb}
 use lib.ListN.{length}
+use borrow.Author.Tests.{eqb-true}
 use Rattle.scheme.specs.Qualifier.{Qualifier}
+use Rattle.scheme.proofs.Qualifier.{code-below}
+use Rattle.scheme.proofs.Order.{plain-lowest}
+use Rattle.scheme.proofs.Every.{every, every-at}
 use Rattle.model.specs.Lists.{bytes}
 use Rattle.model.specs.Number.{numberOf, decimal}
-use Rattle.model.specs.Word.{qualifierOf, schemeOf, operationOf, qualifierWord}
-use Rattle.model.specs.Line.{given, choose, exactly, intLine, anyLine, arrowLine, paramLine, lamLine, appLine, opLine, varLine, numLine, encLine, typeLine, leafLine, termLine, lineOf}
-use Rattle.model.specs.Machine.{Machine, firstFailing, typeRefusal, paramRefusal, termRefusal, settled, entered, added}
+use Rattle.model.specs.Word.{wordOf, qualifierOf, schemeOf, operationOf, qualifierWord}
+use Rattle.model.specs.Line.{floor, given, choose, exactly, intLine, anyLine, arrowLine, paramLine, lamLine, appLine, opLine, varLine, numLine, encLine, typeLine, leafLine, termLine, lineOf}
+use Rattle.model.specs.Machine.{Machine, paramAt, firstFailing, typeRefusal, paramRefusal, termRefusal, settled, entered, added}
 use Rattle.model.specs.Typing.{Ty, Assignment}
 use Rattle.model.specs.Strength.{whole, six}
-use Rattle.model.specs.Inference.{Shape, Refusal, not-typable, typed}
+use Rattle.model.specs.Inference.{Slot, param, Shape, Refusal, FloorsMet, not-typable, typed}
 use Rattle.model.specs.Report as Report
 use Rattle.model.specs.Text.{Load, Prints, load, loadFrom, loaded, refused-inference, reported}
 use Rattle.starred.specs.Starred.{Example, textOf, PrintsOutput}
@@ -25,7 +30,7 @@ use Rattle.starred.proofs.Refused.{refusal-number}
 
 -- What the adds of a program come to, with all that it rests on open to computing.
 unfoldable pub loadOf : List String → Load
-unfolding loadFrom added lineOf typeLine leafLine termLine intLine anyLine arrowLine paramLine lamLine appLine opLine varLine numLine encLine given choose exactly numberOf qualifierOf schemeOf operationOf entered settled firstFailing typeRefusal paramRefusal termRefusal
+unfolding loadFrom added lineOf typeLine leafLine termLine intLine anyLine arrowLine paramLine lamLine appLine opLine varLine numLine encLine given choose exactly numberOf wordOf qualifierOf floor schemeOf operationOf entered settled firstFailing typeRefusal paramRefusal termRefusal
 loadOf program = load (textOf program)
 
 -- The report is read from two typings with one qualifier for all variables: one type for all type rows takes ANY as INT, the other as an arrow.
@@ -49,20 +54,28 @@ unfoldable pub refusalOf : ℕ → ℕ → List ℕ
 unfolding Report.line decimal
 refusalOf number k = Report.line (bytes "NO" ∷ decimal number ∷ decimal k ∷ [])
 
+-- No parameter has a floor above PLAIN, so every word meets its floor.
+abbrev pub WithoutFloors : Machine → Type 0
+WithoutFloors m = every (length (m .params)) (λ p. eqb (paramAt m p .floor) 0) ≡ true
+
+meets-no-floor : (m : Machine) → WithoutFloors m → (word : Slot → ℕ) → FloorsMet six m word
+meets-no-floor m none word p below =
+    rw (eqb-true (paramAt m p .floor) 0 (every-at (length (m .params)) (λ p. eqb (paramAt m p .floor) 0) none p below)) (plain-lowest _ (code-below (six .word (word (param p)))))
+
 module _ (example : Example) (m : Machine) (load-is : loadOf (example .program) ≡ loaded m) (closed-is : closed m ≡ true) where
-  pub accepted-prints : (q : Qualifier) (t t′ : Ty Qualifier) →
+  pub accepted-prints : WithoutFloors m → (q : Qualifier) (t t′ : Ty Qualifier) →
       Equations (whole six) m (length (m .terms)) (uniform (whole six) m q t) →
       Equations (whole six) m (length (m .terms)) (uniform (whole six) m q t′) →
       AllWithin m q t t′ → reportOf m q t t′ ≡ textOf (example .output) → PrintsOutput example
   unfolding loadOf reportOf
-  accepted-prints q t t′ typed-first typed-second all-within report-is =
+  accepted-prints none q t t′ typed-first typed-second all-within report-is =
       let rows : ℕ = length (m .terms) in
       let answer =
       greatest-typing m (first m q t t′) (second m q t t′)
       (equations-typing (whole six) m rows _ typed-first)
       (equations-typing (whole six) m rows _ typed-second)
       (λ s typing. all-within s (typing-equations (whole six) m rows s (omega arith) typing)) in
-      subst (Prints (textOf (example .program))) report-is (reported load-is (typed (closed-sound m closed-is) answer))
+      subst (Prints (textOf (example .program))) report-is (reported load-is (typed (closed-sound m closed-is) answer (meets-no-floor m none (words m (first m q t t′) (second m q t t′)))))
 
   pub refused-prints : {number k : ℕ} → Refusal six m number k → refusalOf number k ≡ textOf (example .output) → PrintsOutput example
   unfolding loadOf refusalOf

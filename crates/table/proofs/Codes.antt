@@ -1,4 +1,4 @@
--- The codes in a line that was read: qualifiers up to 70, the five operations, the six schemes.
+-- The codes in a line that was read: qualifiers up to 70, floors that are words, the five operations, the six schemes.
 use Prim.Native.Nat.{ℕ, _≤_, _<_}
 use mathlib.Core.Bool.{Bool, true, false}
 use mathlib.Core.List.{List}
@@ -14,7 +14,7 @@ use Rattle.model.specs.declared.Term.{Term}
 use Rattle.model.specs.declared.Term.the-variants.{Lam, App, Op, Var, Num, Enc}
 use Rattle.model.specs.declared.Line.{Line}
 use Rattle.model.specs.declared.Line.the-variants.{TypeLine, ParamLine, TermLine, NoForm}
-use Rattle.line.proofs.Bounds.{qualifier-at-most, scheme-between, operation-below}
+use Rattle.line.proofs.Bounds.{qualifier-at-most, floor-at-most, scheme-between, operation-below}
 
 abbrev pub FormCodes : TypeForm → Type 0
 FormCodes Int = Unit {0}
@@ -31,7 +31,7 @@ TermCodes (Enc s n) = (1 ≤ s) × (s ≤ 6)
 
 abbrev pub LineCodes : Line → Type 0
 LineCodes (TypeLine i form) = FormCodes form
-LineCodes (ParamLine p param) = param .qualifier ≤ 70
+LineCodes (ParamLine p param) = (param .qualifier ≤ 70) × (param .floor ≤ 6)
 LineCodes (TermLine i term) = TermCodes term
 LineCodes NoForm = Unit {0}
 
@@ -64,7 +64,7 @@ module _ (s : List ℕ) where
 
   param-line : LineCodes (paramLine s)
   unfolding paramLine
-  param-line = whole-line 4 _ (of-value _ _ λ p e. of-value _ _ λ q e′. of-value _ _ λ t e″. qualifier-at-most _ q e′)
+  param-line = of-value _ _ λ p e. of-value _ _ λ q e′. of-value _ _ λ t e″. of-value _ _ λ f e‴. (qualifier-at-most _ q e′, floor-at-most _ f e‴)
 
   leaf-line : LineCodes (leafLine s)
   unfolding leafLine varLine numLine encLine

@@ -190,21 +190,21 @@ module _ (m : Machine) (w : WellFormed m) where
         params-fit = w .params-fit;
         terms-fit = w .terms-fit;
         types-stand = each-appended (λ t row. TypeStands t (row .form)) (m .types) (record { form = form }) noTypeRow (w .types-stand) (rw (← p .next) (type-stands form i codes (p .below)));
-        params-stand = λ q h. (w .params-stand q h .0, simp length-append (omega (arith, w .params-stand q h .1)));
+        params-stand = λ q h. (w .params-stand q h .0, simp length-append (omega (arith, w .params-stand q h .1)), w .params-stand q h .2);
         terms-stand = w .terms-stand;
         one-parent = w .one-parent;
         two-children = w .two-children;
         one-binder = w .one-binder;
       }
 
-  param-entered : (param : Param) → param .qualifier ≤ 70 → ParamPassed m param → WellFormed (record { types = m .types; params = m .params ++ (param ∷ []); terms = m .terms })
-  param-entered param code p =
+  param-entered : (param : Param) → (param .qualifier ≤ 70) × (param .floor ≤ 6) → ParamPassed m param → WellFormed (record { types = m .types; params = m .params ++ (param ∷ []); terms = m .terms })
+  param-entered param codes p =
       record {
         types-fit = w .types-fit;
         params-fit = simp length-append (omega (arith, p .room));
         terms-fit = w .terms-fit;
         types-stand = w .types-stand;
-        params-stand = each-appended (λ q param. ParamStands (length (m .types)) param) (m .params) param noParam (w .params-stand) (code, p .declared);
+        params-stand = each-appended (λ q param. ParamStands (length (m .types)) param) (m .params) param noParam (w .params-stand) (codes .0, p .declared, codes .1);
         terms-stand = λ i h. simp length-append (term-stands-more (termAt m i) _ i (w .terms-stand i h));
         one-parent = w .one-parent;
         two-children = w .two-children;
@@ -237,7 +237,7 @@ module _ (m : Machine) (w : WellFormed m) where
   redeclared-stands p code h g q l = go (ℕ-discrete q p)
     where
       go : Dec (q ≡ p) → ParamStands (length (m .types)) (getD (set (m .params) p (withQualifier code (paramAt m p))) q noParam)
-      go (yes e) = rw (e, getD-set-same (m .params) p _ _ h) (g, w .params-stand p h .1)
+      go (yes e) = rw (e, getD-set-same (m .params) p _ _ h) (g, w .params-stand p h .1, w .params-stand p h .2)
       go (no e) = rw (getD-set-other (m .params) p q _ _ e) (w .params-stand q l)
 
   param-redeclared : (p code : ℕ) → p < length (m .params) → code ≤ 70 → WellFormed (record { types = m .types; params = set (m .params) p (withQualifier code (paramAt m p)); terms = m .terms })

@@ -58,6 +58,7 @@ impl Table {
         };
         let param = Param {
             qualifier: 0,
+            floor: 0,
             typerow: 0,
         };
         let term = TermRow { term: Term::Num(0) };

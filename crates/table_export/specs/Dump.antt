@@ -29,7 +29,7 @@ typeBytes Any = 2 ∷ 0 ∷ 0 ∷ 0 ∷ 0 ∷ 0 ∷ 0 ∷ 0 ∷ 0 ∷ 0 ∷ []
 typeBytes (Arrow q t q′ t′) = 3 ∷ q ∷ (t % 256) ∷ (t / 256) ∷ q′ ∷ (t′ % 256) ∷ (t′ / 256) ∷ 0 ∷ 0 ∷ 0 ∷ []
 
 abbrev pub paramBytes : Param → List ℕ
-paramBytes param = 1 ∷ param .qualifier ∷ (param .typerow % 256) ∷ (param .typerow / 256) ∷ 0 ∷ 0 ∷ 0 ∷ 0 ∷ 0 ∷ 0 ∷ []
+paramBytes param = 1 ∷ param .qualifier ∷ (param .typerow % 256) ∷ (param .typerow / 256) ∷ param .floor ∷ 0 ∷ 0 ∷ 0 ∷ 0 ∷ 0 ∷ []
 
 abbrev pub termBytes : Term → List ℕ
 termBytes (Lam p b) = pairBytes 1 0 p b

@@ -103,7 +103,7 @@ fn param_bytes(param: Param) -> [u8; 10]
         param.qualifier,
         low(param.typerow),
         high(param.typerow),
-        0,
+        param.floor,
         0,
         0,
         0,

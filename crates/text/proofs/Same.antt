@@ -38,13 +38,13 @@ prints-same (refused-add e) (refused-inference e′ j n) = absurd (not-both e′
 prints-same (refused-add e) (reported e′ j) = absurd (not-both e′ e)
 prints-same (refused-inference e j n) (refused-add e′) = absurd (not-both e e′)
 prints-same (refused-inference {m} {number} {k} e j n) (refused-inference {m = m′} {number = number′} {k = k′} {word = word′} {shape = shape′} e′ j′ n′) =
-    let same = judged-same six m j (subst (λ (m : Machine). Judged six m number′ k′ word′ shape′) (machine-same e e′) j′) in
+    let same = judged-same six six-lawful m j (subst (λ (m : Machine). Judged six m number′ k′ word′ shape′) (machine-same e e′) j′) in
     ap₂ (λ (a b : ℕ). line (bytes "NO" ∷ decimal a ∷ decimal b ∷ [])) (same .0) (same .1)
 prints-same (refused-inference {m} e j n) (reported {word = word′} {shape = shape′} e′ j′) =
-    absurd (n (judged-same six m j (subst (λ (m : Machine). Judged six m 0 0 word′ shape′) (machine-same e e′) j′) .0))
+    absurd (n (judged-same six six-lawful m j (subst (λ (m : Machine). Judged six m 0 0 word′ shape′) (machine-same e e′) j′) .0))
 prints-same (reported e j) (refused-add e′) = absurd (not-both e e′)
 prints-same (reported {m} e j) (refused-inference {number = number′} {k = k′} {word = word′} {shape = shape′} e′ j′ n′) =
-    absurd (n′ (judged-same six m (subst (λ (m : Machine). Judged six m number′ k′ word′ shape′) (machine-same e e′) j′) j .0))
+    absurd (n′ (judged-same six six-lawful m (subst (λ (m : Machine). Judged six m number′ k′ word′ shape′) (machine-same e e′) j′) j .0))
 prints-same (reported {m} e j) (reported {m = m′} {word = word′} {shape = shape′} e′ j′) =
     reports-same j (subst (λ (m : Machine). Judged six m 0 0 word′ shape′) (machine-same e e′) j′) ∙ ap (λ (m : Machine). report m word′ shape′) (sym (machine-same e e′))
 

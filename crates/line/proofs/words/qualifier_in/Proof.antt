@@ -1,4 +1,4 @@
--- The byte string's fields are the definition's words; after them come the named variables.
+-- The words come first, then the named variables.
 use borrow.Author.Needs.{needs}
 use Rattle.model.specs.Word.{qualifierOf}
 use Rattle.line.proofs.Spelling.{else-first, else-second}
@@ -10,7 +10,6 @@ unfolding qualifierOf
 qualifier-in-spec =
     tie.close
     (tie.spec
-    (λ c. search needs)
     (λ c κs. search needs)
     (λ c. search needs)
     (λ c. search needs)

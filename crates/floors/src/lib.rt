@@ -1,0 +1,27 @@
+// The floors of the parameters: the lowest parameter whose word is not at or above its floor.
+ghost use Prim.Native.Nat.{_≤_};
+ghost use Rattle.floors.specs.Lowest.{Worded, Lowest};
+use model::Param;
+
+// The lowest parameter that misses its floor, or that none does.
+pub enum Missed {
+    At(usize),
+    Nowhere,
+}
+
+// Looks for the first parameter whose floor is not at or below its word, both given by their codes.
+pub fn lowest_missed(params: [Param; 64], count: usize, words: &[u8; 64]) -> Missed
+    requires { ⌜ (count ≤ 64) × Worded count params (now words) ⌝ }
+    ensures { λ r. ⌜ Lowest count params (now (words .entry)) r ⌝ }
+{
+    let mut p = 0;
+    while p < count {
+        let param = params[p];
+        let word = words[p];
+        if !scheme::at_or_below(param.floor, word) {
+            return Missed::At(p);
+        }
+        p += 1;
+    }
+    Missed::Nowhere
+}
