@@ -4,9 +4,11 @@ use bench::answers;
 use bench::rival::{Slots, Solver, MEET};
 use bench::sets::{self, Sample};
 use second::generate::{
-    chain, closed_program, deep, doubling, opened, text_of_lines, text_of_table, Opening, Random,
+    chain, deep, doubling, opened, program_with_floors, text_of_lines, text_of_table,
+    text_with_floors, Floors, Opening, Random,
 };
 use second::qualifier::{meet, Qualifier};
+use second::to_try;
 
 /// Compares the answers on these texts; gives how often each number was answered.
 fn compare(texts: impl Iterator<Item = Vec<u8>>) -> [usize; 101] {
@@ -25,13 +27,32 @@ fn compare(texts: impl Iterator<Item = Vec<u8>>) -> [usize; 101] {
 #[test]
 fn closed_programs() {
     let mut random = Random::seeded(21);
+    let (mut met, mut several_missed) = (0, 0);
     let programs = (0..3_000).map(|_| {
         let rows = random.between(1, 256);
-        text_of_table(&closed_program(&mut random, rows).table())
+        let table = program_with_floors(&mut random, rows).table();
+        met += usize::from(Floors::of(&table) == Floors::Met);
+        several_missed += usize::from(Floors::of(&table) == Floors::SeveralMissed);
+        text_of_table(&table)
     });
     let numbers = compare(programs);
-    for number in [21, 22, 23, 100] {
+    for number in [21, 22, 23, 24, 100] {
         assert!(numbers[number] > 100, "{number}: {}", numbers[number]);
+    }
+    assert!(met > 300 && several_missed > 100, "{met} {several_missed}");
+}
+
+#[test]
+fn programs_to_try() {
+    let (mut solver, mut slots) = (Solver::default(), Slots::default());
+    for program in to_try::all() {
+        // The rival has no reader of lines, so it is not asked about refused ones.
+        if !program.prints.starts_with(b"X,") {
+            let sample = Sample::of_text(&program.text);
+            let found = answers::rival(&mut solver, &mut slots, &sample);
+            assert_eq!(found.0, program.returns, "for {}", program.about);
+            assert!(found.1.starts_with(program.report().unwrap_or(b"")), "for {}", program.about);
+        }
     }
 }
 
@@ -39,7 +60,7 @@ fn closed_programs() {
 fn open_programs() {
     let mut random = Random::seeded(22);
     let programs = (0..1_000).filter_map(|_| {
-        let program = closed_program(&mut random, 40);
+        let program = program_with_floors(&mut random, 40);
         let opening = *random.pick(&Opening::ALL)?;
         let lines = opened(&mut random, &program, opening)?;
         Some(text_of_lines(&lines.join(" ")))
@@ -50,11 +71,18 @@ fn open_programs() {
 #[test]
 fn chains_and_shared_types() {
     let mut random = Random::seeded(23);
-    let chains: Vec<_> = (0..700).map(|_| chain(&mut random)).collect();
-    let doubled: Vec<_> = (0..300).map(|_| doubling(&mut random)).collect();
+    let mut texts = |generate: fn(&mut Random) -> Vec<u8>, count: usize| -> Vec<_> {
+        let text = |_| {
+            let text = generate(&mut random);
+            text_with_floors(&mut random, &text)
+        };
+        (0..count).map(text).collect()
+    };
+    let (chains, doubled) = (texts(chain, 700), texts(doubling, 300));
     let shared = sets::shared(&mut random, 500).into_iter().map(|sample| sample.text);
     let named = deep::all().into_iter().map(|(_, lines)| text_of_lines(&lines));
-    compare(chains.into_iter().chain(doubled).chain(shared).chain(named));
+    let numbers = compare(chains.into_iter().chain(doubled).chain(shared).chain(named));
+    assert!(numbers[24] > 50, "{}", numbers[24]);
 }
 
 /// A program whose APP at row 5 makes two arrows equal; x, declared g0, is in a sum before.
@@ -90,6 +118,8 @@ fn the_sets_are_what_they_are_called() {
     let mut random = Random::seeded(24);
     let texts = |set: Vec<Sample>| {
         assert!(set.iter().all(|sample| sample.table.terms.len() == 256));
+        // Times stay comparable with those from before there were floors.
+        assert!(set.iter().all(|sample| Floors::of(&sample.table) == Floors::Plain));
         set.into_iter().map(|sample| sample.text)
     };
     assert_eq!(compare(texts(sets::accepted(&mut random, 20, 256)))[100], 20);

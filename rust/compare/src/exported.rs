@@ -70,7 +70,7 @@ pub fn run_calls(script: &[u8], numbers: &mut [u16], entries: &mut [u8]) -> u64 
 
 /// Runs a whole text on a table of its own; writes the report where the program is accepted.
 ///
-/// It returns 100,000 + the report's length, or the refusal's number x 1,000 + its line or row.
+/// It returns 100,000 + the report's length, or the refusal's number x 1,000 + its line, row or parameter.
 pub fn placement_report(text: &[u8], report: &mut [u8]) -> u32 {
     // SAFETY: both slices are valid for their lengths during the call, and only `report` is written.
     unsafe { raw::placement_report(text.as_ptr(), text.len(), report.as_mut_ptr(), report.len()) }

@@ -36,7 +36,8 @@ fn type_numbers(own: u32, row: TypeRow) -> Numbers {
 
 /// The numbers of a parameter.
 fn parameter_numbers(own: u32, parameter: Parameter) -> Numbers {
-    [4, own, parameter.qualifier.into(), parameter.type_row.into(), 0, 0]
+    let Parameter { qualifier, type_row, floor } = parameter;
+    [4, own, qualifier.into(), type_row.into(), floor.code().into(), 0]
 }
 
 /// The numbers of a term row.

@@ -82,7 +82,7 @@ fn type_bytes(row: &TypeRow) -> EntryBytes {
 /// The bytes of a parameter.
 fn parameter_bytes(parameter: &Parameter) -> EntryBytes {
     let [low, high] = parameter.type_row.to_le_bytes();
-    [1, parameter.qualifier, low, high, 0, 0, 0, 0, 0, 0]
+    [1, parameter.qualifier, low, high, parameter.floor.code(), 0, 0, 0, 0, 0]
 }
 
 /// The bytes of a term row.

@@ -3,7 +3,6 @@
 use crate::calls::{self, filling_lines, fitting_calls, fitting_calls_on};
 use second::generate::{any_bytes, call_list, damaged_line, what_if_list, Call, Random};
 use second::place::lines;
-use second::report::LONGEST_REPORT;
 use second::Table;
 
 /// What a script is.
@@ -78,15 +77,14 @@ fn full_calls(random: &mut Random) -> Vec<Call> {
 
 /// The calls with infers among them by chance, and one at the end.
 fn with_infers(random: &mut Random, calls: Vec<calls::Call>) -> Vec<Call> {
-    let infer = Call::Infer(LONGEST_REPORT, 0);
     let mut all = vec![];
     for call in calls {
         if random.one_in(12) {
-            all.push(infer.clone());
+            all.push(Call::INFER);
         }
         all.push(call.into());
     }
-    all.push(infer);
+    all.push(Call::INFER);
     all
 }
 

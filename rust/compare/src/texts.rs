@@ -3,7 +3,7 @@
 use crate::calls::filling_lines;
 use crate::well_formed::random_line;
 use second::generate::{
-    any_bytes, closed_program, opened, text_of_table, Damage, Opening, Program, Random,
+    any_bytes, opened, program_with_floors, text_of_table, Damage, Opening, Program, Random,
 };
 
 /// What a text is.
@@ -79,14 +79,14 @@ pub fn random_text(random: &mut Random) -> (Kind, Vec<u8>) {
     (kind, kind.text(random))
 }
 
-/// A random closed program, small or of any size.
+/// A random closed program, small or of any size; most have floors.
 fn program(random: &mut Random) -> Program {
     let rows = match random.below(3) {
         0 => random.between(1, 12),
         1 => random.between(1, 60),
         _ => random.between(1, 256),
     };
-    closed_program(random, rows)
+    program_with_floors(random, rows)
 }
 
 /// The text of a random closed program.

@@ -19,6 +19,8 @@ pub enum Field {
     Number,
     /// A qualifier or a named variable.
     Qualifier,
+    /// A floor: a qualifier, but no named variable.
+    Floor,
     /// One of the six schemes.
     Scheme,
     /// An operation.
@@ -36,8 +38,8 @@ pub struct Form {
     pub fields: &'static [Field],
 }
 
-/// The ten forms in the order of their numbers, which begin at 1.
-pub const ALL: [Form; 10] = [
+/// The ten forms in the order of their numbers; that of a P line stands twice, without a floor and with one.
+pub const ALL: [Form; 11] = [
     Form { list: "T", word: "INT", fields: &[] },
     Form { list: "T", word: "ANY", fields: &[] },
     Form {
@@ -46,6 +48,7 @@ pub const ALL: [Form; 10] = [
         fields: &[Field::Qualifier, Field::TypeRow, Field::Qualifier, Field::TypeRow],
     },
     Form { list: "P", word: "", fields: &[Field::Qualifier, Field::TypeRow] },
+    Form { list: "P", word: "", fields: &[Field::Qualifier, Field::TypeRow, Field::Floor] },
     Form { list: "E", word: "LAM", fields: &[Field::Parameter, Field::Row] },
     Form { list: "E", word: "APP", fields: &[Field::Row, Field::Row] },
     Form { list: "E", word: "OP", fields: &[Field::Operation, Field::Row, Field::Row] },
@@ -97,7 +100,7 @@ pub fn random_line(random: &mut Random) -> Vec<u8> {
 fn lowest(field: Field) -> &'static str {
     match field {
         Field::Own | Field::TypeRow | Field::Parameter | Field::Row | Field::Number => "0",
-        Field::Qualifier => "PLAIN",
+        Field::Qualifier | Field::Floor => "PLAIN",
         Field::Scheme => "FHE",
         Field::Operation => "ADD",
     }
@@ -113,7 +116,7 @@ pub fn random_text(random: &mut Random, field: Field) -> String {
         Field::Qualifier if random.one_in(2) => {
             format!("g{}", random.below(NAMED_VARIABLES.into()))
         }
-        Field::Qualifier => Qualifier::ALL[random.below(7)].word().to_string(),
+        Field::Qualifier | Field::Floor => Qualifier::ALL[random.below(7)].word().to_string(),
         Field::Scheme => Qualifier::ALL[random.between(1, 6)].word().to_string(),
         Field::Operation => Operation::ALL[random.below(5)].word().to_string(),
     }

@@ -3,7 +3,9 @@
 use compare::numbers::{numbers, Numbers, FORMS};
 use compare::read_line;
 use compare::well_formed::{self, random_line, Field};
-use second::generate::{any_bytes, changed_line, closed_program, damaged_line, Random};
+use second::generate::{
+    any_bytes, changed_line, damaged_line, program_with_floors, Random, WRONG_FLOORS,
+};
 use second::line::read;
 use second::operation::Operation;
 use second::qualifier::Qualifier;
@@ -64,6 +66,7 @@ fn sample_lines() -> Vec<Vec<u8>> {
         Field::Own | Field::TypeRow | Field::Parameter | Field::Row => "6553".to_string(),
         Field::Number => "429496729".to_string(),
         Field::Qualifier => "g63".to_string(),
+        Field::Floor => Qualifier::Rand.word().to_string(),
         Field::Scheme => Qualifier::Det.word().to_string(),
         Field::Operation => Operation::Lt.word().to_string(),
     };
@@ -76,6 +79,7 @@ fn each_form_has_its_numbers() {
     assert_numbers("T,2,ANY", [2, 2, 0, 0, 0, 0]);
     assert_numbers("T,3,ARROW,RAND,4,g5,6", [3, 3, 6, 4, 12, 6]);
     assert_numbers("P,4,g63,5", [4, 4, 70, 5, 0, 0]);
+    assert_numbers("P,4,g63,5,RAND", [4, 4, 70, 5, 6, 0]);
     assert_numbers("E,5,LAM,6,7", [5, 5, 6, 7, 0, 0]);
     assert_numbers("E,6,APP,7,8", [6, 6, 7, 8, 0, 0]);
     assert_numbers("E,7,OP,GT,8,9", [7, 7, 4, 8, 9, 0]);
@@ -84,6 +88,16 @@ fn each_form_has_its_numbers() {
     assert_numbers("E,65535,ENC,FHE,11", [10, 65535, 1, 11, 0, 0]);
     assert_numbers("", [0; 6]);
     assert_numbers("E,0,ENC,PLAIN,1", [0; 6]);
+}
+
+#[test]
+fn each_floor_has_its_number() {
+    for (code, word) in (0..).zip(["PLAIN", "FHE", "OP", "DET", "MH", "AH", "RAND"]) {
+        assert_numbers(&format!("P,1,AH,2,{word}"), [4, 1, 5, 2, code, 0]);
+    }
+    for wrong in WRONG_FLOORS {
+        assert_numbers(&format!("P,1,AH,2,{wrong}"), [0; 6]);
+    }
 }
 
 #[test]
@@ -129,7 +143,7 @@ fn lines_of_programs_are_read_alike() {
     let mut tally = Tally::default();
     for _ in 0..500 {
         let rows = random.between(1, 256);
-        for line in closed_program(&mut random, rows).lines {
+        for line in program_with_floors(&mut random, rows).lines {
             tally.compare(line.as_bytes());
             tally.compare(&damaged_line(&mut random, line.as_bytes()));
         }

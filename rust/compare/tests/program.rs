@@ -11,6 +11,12 @@ use std::collections::BTreeMap;
 /// How many generated texts are compared.
 const TEXTS: usize = 600;
 
+/// How outputs start that have to occur among those of the generated texts.
+const STARTS: [&str; 13] = [
+    "OK", "X,1", "X,2", "X,3", "X,4", "X,5", "X,6", "X,7", "NO,10", "NO,21", "NO,22", "NO,23",
+    "NO,24",
+];
+
 /// Asserts that the program prints these bytes for a text.
 fn assert_prints(about: &str, text: &[u8], piece: usize, expected: &[u8]) {
     let printed = printed(&program("place"), &pieces(text, piece)).escape_ascii().to_string();
@@ -30,7 +36,7 @@ fn program_a_is_printed_in_full() {
 }
 
 #[test]
-fn each_program_to_try_is_printed_as_document_01_says() {
+fn each_program_to_try_is_printed_as_the_documents_say() {
     for program in to_try::all() {
         assert_prints(program.about, &program.text, WHOLE, &program.prints);
     }
@@ -64,8 +70,7 @@ fn texts_of_each_kind_are_printed_alike() {
     for kind in Kind::all() {
         assert!(kinds.contains_key(&kind), "{kind:?} did not occur");
     }
-    for start in ["OK", "X,1", "X,2", "X,3", "X,4", "X,5", "X,6", "X,7", "NO,10", "NO,21", "NO,22"]
-    {
+    for start in STARTS {
         assert!(starts.contains_key(start), "{start} was not printed: {starts:?}");
     }
     assert!(starts["OK"] >= TEXTS / 10, "{starts:?}");

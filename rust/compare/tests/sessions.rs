@@ -18,9 +18,10 @@ use std::path::Path;
 const SCRIPTS: usize = 24_000;
 
 /// The commands with their numbers that occur often in generated scripts, and those that seldom do.
-const OFTEN: [&str; 17] = [
+const OFTEN: [&str; 18] = [
     "add 0", "add 1", "add 2", "add 3", "add 4", "add 5", "add 6", "add 7", "redeclare 0",
-    "redeclare 5", "take-back 0", "infer 0", "infer 10", "infer 21", "infer 22", "infer 23", "? 0",
+    "redeclare 5", "take-back 0", "infer 0", "infer 10", "infer 21", "infer 22", "infer 23",
+    "infer 24", "? 0",
 ];
 const SELDOM: [&str; 3] = ["add 8", "redeclare 12", "take-back 9"];
 
@@ -107,56 +108,114 @@ struct Since {
     taken_back: bool,
 }
 
+/// What an infer says of a closed program.
+enum Verdict {
+    Accepted,
+    NoTyping,
+    FloorMissed,
+}
+
+impl Verdict {
+    /// What an answer to an infer says.
+    fn of(answer: &[u8]) -> Verdict {
+        match number(answer) {
+            0 => Verdict::Accepted,
+            24 => Verdict::FloorMissed,
+            _ => Verdict::NoTyping,
+        }
+    }
+}
+
 /// What is seen of an infer beside the last one of a closed program.
 #[derive(Clone, Copy, Debug, PartialEq, Eq, PartialOrd, Ord)]
 enum Change {
     /// Only parameters were redeclared, and both are accepted with different reports.
     OtherReportAfterRedeclare,
-    /// Only parameters were redeclared, and the program is refused now.
-    RefusedAfterRedeclare,
-    /// Only parameters were redeclared, and the program is accepted now.
+    /// Only parameters were redeclared, and an accepted program has no typing now.
+    NoTypingAfterRedeclare,
+    /// Only parameters were redeclared, and a program that had no typing is accepted now.
     AcceptedAfterRedeclare,
+    /// Only parameters were redeclared, and an accepted program misses a floor now.
+    FloorMissedAfterRedeclare,
+    /// Only parameters were redeclared, and a program that missed a floor is accepted now.
+    FloorMetAfterRedeclare,
+    /// Only parameters were redeclared, and the lowest parameter that misses its floor is another.
+    OtherFloorMissedAfterRedeclare,
     /// Rows were taken back, and the program is open now.
     OpenAfterTakeBack,
     /// Rows were taken back and others added, and both are accepted with different reports.
     OtherReportAfterTakeBack,
     /// Rows were taken back and added again, and both are accepted with the same report.
     SameReportAfterTakeBack,
-    /// Rows were taken back and others added, and the program is refused now.
-    RefusedAfterTakeBack,
-    /// Rows were taken back and others added, and the program is accepted now.
+    /// Rows were taken back and others added, and an accepted program has no typing now.
+    NoTypingAfterTakeBack,
+    /// Rows were taken back and others added, and a program that had no typing is accepted now.
     AcceptedAfterTakeBack,
+    /// Rows were taken back and others added, and an accepted program misses a floor now.
+    FloorMissedAfterTakeBack,
+    /// Rows were taken back and others added, and a program that missed a floor is accepted now.
+    FloorMetAfterTakeBack,
 }
 
 impl Change {
-    /// All changes.
-    const ALL: [Change; 8] = [
+    /// The changes that occur often in generated scripts, and those that seldom do.
+    const OFTEN: [Change; 11] = [
         Change::OtherReportAfterRedeclare,
-        Change::RefusedAfterRedeclare,
+        Change::NoTypingAfterRedeclare,
         Change::AcceptedAfterRedeclare,
+        Change::FloorMissedAfterRedeclare,
+        Change::FloorMetAfterRedeclare,
+        Change::OtherFloorMissedAfterRedeclare,
         Change::OpenAfterTakeBack,
         Change::OtherReportAfterTakeBack,
         Change::SameReportAfterTakeBack,
-        Change::RefusedAfterTakeBack,
+        Change::NoTypingAfterTakeBack,
         Change::AcceptedAfterTakeBack,
     ];
+    const SELDOM: [Change; 2] = [Change::FloorMissedAfterTakeBack, Change::FloorMetAfterTakeBack];
 
     /// What is seen of an infer, if anything, from the answers before and now and what was accepted between.
     fn of(before: &[u8], now: &[u8], since: &Since) -> Option<Change> {
         if open(now) {
             return since.taken_back.then_some(Change::OpenAfterTakeBack);
         }
-        let accepted = [before, now].map(|answer| answer.starts_with(b"OK"));
-        let rebuilt = since.taken_back && since.added;
-        let redeclared = since.redeclared && !since.taken_back && !since.added;
-        match accepted {
-            [true, true] if redeclared && before != now => Some(Change::OtherReportAfterRedeclare),
-            [true, false] if redeclared => Some(Change::RefusedAfterRedeclare),
-            [false, true] if redeclared => Some(Change::AcceptedAfterRedeclare),
-            [true, true] if rebuilt && before != now => Some(Change::OtherReportAfterTakeBack),
-            [true, true] if rebuilt => Some(Change::SameReportAfterTakeBack),
-            [true, false] if rebuilt => Some(Change::RefusedAfterTakeBack),
-            [false, true] if rebuilt => Some(Change::AcceptedAfterTakeBack),
+        if since.taken_back && since.added {
+            Change::after_take_back(before, now)
+        } else if since.redeclared && !since.taken_back && !since.added {
+            Change::after_redeclare(before, now)
+        } else {
+            None
+        }
+    }
+
+    /// What is seen of an infer of a closed program where only parameters were redeclared.
+    fn after_redeclare(before: &[u8], now: &[u8]) -> Option<Change> {
+        match [before, now].map(Verdict::of) {
+            [Verdict::Accepted, Verdict::Accepted] if before != now => {
+                Some(Change::OtherReportAfterRedeclare)
+            }
+            [Verdict::Accepted, Verdict::NoTyping] => Some(Change::NoTypingAfterRedeclare),
+            [Verdict::NoTyping, Verdict::Accepted] => Some(Change::AcceptedAfterRedeclare),
+            [Verdict::Accepted, Verdict::FloorMissed] => Some(Change::FloorMissedAfterRedeclare),
+            [Verdict::FloorMissed, Verdict::Accepted] => Some(Change::FloorMetAfterRedeclare),
+            [Verdict::FloorMissed, Verdict::FloorMissed] if before != now => {
+                Some(Change::OtherFloorMissedAfterRedeclare)
+            }
+            _ => None,
+        }
+    }
+
+    /// What is seen of an infer of a closed program where rows were taken back and others added.
+    fn after_take_back(before: &[u8], now: &[u8]) -> Option<Change> {
+        match [before, now].map(Verdict::of) {
+            [Verdict::Accepted, Verdict::Accepted] if before != now => {
+                Some(Change::OtherReportAfterTakeBack)
+            }
+            [Verdict::Accepted, Verdict::Accepted] => Some(Change::SameReportAfterTakeBack),
+            [Verdict::Accepted, Verdict::NoTyping] => Some(Change::NoTypingAfterTakeBack),
+            [Verdict::NoTyping, Verdict::Accepted] => Some(Change::AcceptedAfterTakeBack),
+            [Verdict::Accepted, Verdict::FloorMissed] => Some(Change::FloorMissedAfterTakeBack),
+            [Verdict::FloorMissed, Verdict::Accepted] => Some(Change::FloorMetAfterTakeBack),
             _ => None,
         }
     }
@@ -243,7 +302,7 @@ fn the_examples_have_their_answers() {
 }
 
 #[test]
-fn each_program_to_try_is_answered_as_document_01_says() {
+fn each_program_to_try_is_answered_as_the_documents_say() {
     for program in to_try::all() {
         let adds = lines(&program.text).count();
         let script = adding(&program.text);
@@ -261,6 +320,50 @@ fn each_program_to_try_is_answered_as_document_01_says() {
             assert_bytes(&found[..front.len()], &front, &format!("{name}, {}", program.about));
         }
     }
+}
+
+#[test]
+fn a_floor_is_met_and_missed_as_the_documents_say() {
+    let report = |word: &str| {
+        format!(
+            "OK,1,4 G,0,{word} P,0,{word},INT E,0,{word},INT E,1,{word},INT E,2,PLAIN,INT
+             E,3,PLAIN,ARROW"
+        )
+    };
+    let (op, det) = (report("OP"), report("DET"));
+    let exchanges = [
+        ("add T,0,ANY", "0"),
+        ("add P,0,g0,0,g0", "1"),
+        ("add P,0,g0,0,OP,OP", "1"),
+        ("add P,0,g0,0,OP", "0"),
+        ("add E,0,VAR,0", "0"),
+        ("add E,1,VAR,0", "0"),
+        ("add E,2,OP,LT,0,1", "0"),
+        ("infer", "NO,10,0"),
+        ("add E,3,LAM,0,2", "0"),
+        ("infer", &op),
+        // FHE supports LT and is below the floor; RAND is above the floor and does not support LT.
+        ("redeclare 0 1", "0"),
+        ("infer", "NO,24,0"),
+        ("redeclare 0 6", "0"),
+        ("infer", "NO,23,2"),
+        ("redeclare 0 7", "0"),
+        ("infer", &op),
+        // A sum has AH at most, which is beside the floor; DET, which EQ has, is above it.
+        ("take-back", "0"),
+        ("take-back", "0"),
+        ("add E,2,OP,ADD,0,1", "0"),
+        ("add E,3,LAM,0,2", "0"),
+        ("infer", "NO,24,0"),
+        ("take-back", "0"),
+        ("take-back", "0"),
+        ("add E,2,OP,EQ,0,1", "0"),
+        ("add E,3,LAM,0,2", "0"),
+        ("infer", &det),
+    ];
+    let script: String = exchanges.iter().map(|(line, _)| format!("{line}\n")).collect();
+    let answers: Vec<u8> = exchanges.iter().flat_map(|(_, it)| text_of_lines(it)).collect();
+    assert_answers("a script with a floor", script.as_bytes(), &answers);
 }
 
 #[test]
@@ -289,8 +392,11 @@ fn scripts_of_each_kind_are_answered_alike() {
     rooms.assert_each(Room::ALL, SCRIPTS / 30);
     tally.answers.assert_each(OFTEN.map(str::to_string), SCRIPTS / 6);
     tally.answers.assert_each(SELDOM.map(str::to_string), SCRIPTS / 60);
-    tally.changes.assert_each(Change::ALL, SCRIPTS / 150);
+    tally.changes.assert_each(Change::OFTEN, SCRIPTS / 150);
+    tally.changes.assert_each(Change::SELDOM, SCRIPTS / 2_000);
     tally.changes.assert_each([Change::OtherReportAfterRedeclare], SCRIPTS / 4);
+    let floors = [Change::FloorMissedAfterRedeclare, Change::FloorMetAfterRedeclare];
+    tally.changes.assert_each(floors, SCRIPTS / 10);
 }
 
 #[test]
@@ -362,7 +468,7 @@ fn redeclarations_near_the_limits_are_answered_alike() {
     let larger = ["65536", "4294967295", "4294967296", "4294967297", "18446744073709551615"];
     let largest = ["18446744073709551616", "100000000000000000000000000000000000000000"];
     let all: Vec<&str> = numbers.into_iter().chain(larger).chain(largest).collect();
-    let program = b"T,0,ANY\nP,0,g0,0\nP,1,AH,0\nE,0,VAR,1\nE,1,LAM,1,0\nE,2,LAM,0,1\n";
+    let program = b"T,0,ANY\nP,0,g0,0,OP\nP,1,AH,0\nE,0,VAR,1\nE,1,LAM,1,0\nE,2,LAM,0,1\n";
     for parameter in &all {
         for code in &all {
             let mut script = adding(program);

@@ -60,27 +60,47 @@ fn assert_same(proved: &Outcome, reference: &Outcome, calls: &[Call]) {
     assert_eq!(proved, reference, "after {calls:?}");
 }
 
-/// How often each number was returned.
+/// What occurred in many comparisons.
 #[derive(Default)]
-struct Tally([usize; 13]);
+struct Tally {
+    /// How often each number was returned.
+    numbers: [usize; 13],
+    /// How often a parameter had each floor after the last call.
+    floors: [usize; 7],
+}
 
 impl Tally {
     /// Compares the two tables on a list of calls and counts what the calls return.
     fn compare(&mut self, random: &mut Random, calls: &[Call]) {
         let expected = reference(calls);
         assert_same(&proved(&script(random, calls)), &expected, calls);
-        for number in expected.numbers {
-            self.0[usize::from(number)] += 1;
+        for &number in &expected.numbers {
+            self.numbers[usize::from(number)] += 1;
+        }
+        for floor in floors(&expected) {
+            self.floors[usize::from(floor)] += 1;
         }
     }
 
     /// Asserts that each of these numbers was returned so often.
     fn assert_each(&self, answers: &[usize], fewest: usize) {
         for &answer in answers {
-            let count = self.0[answer];
+            let count = self.numbers[answer];
             assert!(count >= fewest, "{answer} was returned {count} times only");
         }
     }
+
+    /// Asserts that parameters had each floor so often.
+    fn assert_each_floor(&self, fewest: usize) {
+        assert!(self.floors.iter().all(|&count| count >= fewest), "{:?}", self.floors);
+    }
+}
+
+/// The floors of the parameters that stand.
+fn floors(outcome: &Outcome) -> impl Iterator<Item = u8> + '_ {
+    let all = outcome.entries.chunks(ENTRY_BYTES);
+    let params = all.skip(Table::TYPE_LIMIT).take(Table::PARAMETER_LIMIT);
+    params.filter(|bytes| bytes[0] == 1).map(|bytes| bytes[4])
 }
 
 /// The adds of some lines, separated by white space.
@@ -104,7 +124,11 @@ fn each_entry_has_its_bytes() {
     assert_entry(types, 1, [2, 0, 0, 0, 0, 0, 0, 0, 0, 0]);
     assert_entry(types, 2, [3, 6, 0, 0, 70, 1, 0, 0, 0, 0]);
     assert_entry(types, 3, [0; ENTRY_BYTES]);
-    assert_entry("T,0,INT T,1,ANY P,0,g0,1", 64, [1, 7, 1, 0, 0, 0, 0, 0, 0, 0]);
+    let params = "T,0,INT T,1,ANY P,0,g0,1 P,1,AH,0,PLAIN P,2,g63,1,RAND P,3,FHE,0,MH";
+    assert_entry(params, 64, [1, 7, 1, 0, 0, 0, 0, 0, 0, 0]);
+    assert_entry(params, 65, [1, 5, 0, 0, 0, 0, 0, 0, 0, 0]);
+    assert_entry(params, 66, [1, 70, 1, 0, 6, 0, 0, 0, 0, 0]);
+    assert_entry(params, 67, [1, 1, 0, 0, 4, 0, 0, 0, 0, 0]);
     let terms = "T,0,INT P,0,AH,0 E,0,VAR,0 E,1,LAM,0,0 E,2,NUM,67305985 E,3,ENC,MH,4294967295 \
                  E,4,OP,GT,2,3 E,5,APP,1,4";
     assert_entry(terms, 128, [4, 0, 0, 0, 0, 0, 0, 0, 0, 0]);
@@ -125,6 +149,7 @@ fn calls_that_build_programs_are_answered_alike() {
         tally.compare(&mut random, &calls);
     }
     tally.assert_each(&[0, 1, 2, 4, 5, 6, 7, 8, 12], 500);
+    tally.assert_each_floor(1_000);
 }
 
 #[test]
@@ -149,6 +174,7 @@ fn calls_that_nearly_fit_are_answered_alike() {
         tally.compare(&mut random, &calls);
     }
     tally.assert_each(&[0, 1, 2, 4, 5, 6, 7, 8, 9, 12], 500);
+    tally.assert_each_floor(1_000);
 }
 
 #[test]
@@ -215,12 +241,14 @@ fn each_redeclaration_is_answered_alike() {
     let limits = [255, 256, 65_535, 65_536, 65_537, 16_777_216, u32::MAX - 1, u32::MAX];
     for parameter in (0..70).chain(limits) {
         for code in (0..80).chain(limits) {
-            let mut calls = adds("T,0,INT P,0,AH,0 P,1,g3,0 P,2,RAND,0");
+            let mut calls = adds("T,0,INT P,0,AH,0,DET P,1,g3,0 P,2,RAND,0,RAND");
             calls.push(Call::Redeclare(parameter, code));
             tally.compare(&mut random, &calls);
         }
     }
     tally.assert_each(&[0, 5, 12], 20);
+    // No floor but those of the lines: PLAIN, DET and RAND.
+    assert_eq!(tally.floors.map(|count| count > 0), [true, false, false, true, false, false, true]);
 }
 
 #[test]

@@ -7,7 +7,9 @@ use compare::placement_report;
 use compare::slowest::Slowest;
 use compare::texts::{closed_text, large_texts, random_text, Kind};
 use second::entry;
-use second::generate::{chain, deep, doubling, text_of_lines, Damage, Random};
+use second::generate::{
+    chain, deep, doubling, text_of_lines, text_with_floors, Damage, Floors, Random,
+};
 use second::place::lines;
 use second::qualifier::Qualifier;
 use second::report::LONGEST_REPORT;
@@ -17,14 +19,14 @@ use second::Table;
 use std::time::Instant;
 
 /// How many texts of all kinds are compared.
-const TEXTS: usize = 55_000;
+const TEXTS: usize = 70_000;
 
 /// How many closed tables are compared, and how many of each special kind.
-const TABLES: usize = 20_000;
+const TABLES: usize = 30_000;
 const SPECIAL_TABLES: usize = 2_000;
 
 /// The answers to closed programs: accepted, or the number of a refusal.
-const VERDICTS: [u32; 4] = [0, 21, 22, 23];
+const VERDICTS: [u32; 5] = [0, 21, 22, 23, 24];
 
 /// How long a report buffer is.
 #[derive(Clone, Copy, Debug, PartialEq, Eq, PartialOrd, Ord)]
@@ -69,9 +71,10 @@ impl Room {
 struct Tally {
     /// 0 for accepted, otherwise the refusal's number.
     answers: Counts<u32>,
-    /// The lines of refused adds, and the rows of refused inferences.
+    /// The lines of refused adds, the rows of programs without a typing, and the parameters of missed floors.
     lines: Counts<u32>,
     rows: Counts<u32>,
+    parameters: Counts<u32>,
     rooms: Counts<Room>,
     /// The lines of reports without their own numbers, as `P,AH,INT`.
     slots: Counts<String>,
@@ -102,6 +105,7 @@ impl Tally {
         match number {
             1..=8 => self.lines.add(place),
             21..=23 => self.rows.add(place),
+            24 => self.parameters.add(place),
             10 | 11 => {}
             _ => {
                 let report = &buffer[..(returned - 100_000) as usize];
@@ -182,7 +186,7 @@ fn program_a_has_its_report_in_full() {
 }
 
 #[test]
-fn each_program_to_try_is_answered_as_document_01_says() {
+fn each_program_to_try_is_answered_as_the_documents_say() {
     for program in to_try::all() {
         let report = program.report().unwrap_or(b"");
         assert_answers(program.about, &program.text, program.returns, report);
@@ -233,6 +237,25 @@ fn each_row_of_a_long_sum_is_named() {
 }
 
 #[test]
+fn each_parameter_of_a_missed_floor_is_named() {
+    for missed in 0..Table::PARAMETER_LIMIT {
+        let mut lines = String::from("T,0,INT E,0,NUM,1");
+        for own in 0..Table::PARAMETER_LIMIT {
+            // All floors below this parameter's are met, and some above it are missed too.
+            let declared = match own {
+                _ if own < missed => "g0,0,RAND",
+                _ if (own - missed) % 3 == 0 => "DET,0,AH",
+                _ => "MH,0,FHE",
+            };
+            lines += &format!(" P,{own},{declared} E,{},LAM,{own},{own}", own + 1);
+        }
+        let text = text_of_lines(&lines);
+        assert_answers("a missed floor", &text, 24_000 + missed as u32, b"");
+        assert_answer("a short buffer", &text, LONGEST_REPORT - 1, 11_000, b"");
+    }
+}
+
+#[test]
 fn texts_of_each_kind_are_answered_alike() {
     let mut random = Random::seeded(1);
     let mut tally = Tally::default();
@@ -251,7 +274,7 @@ fn texts_of_each_kind_are_answered_alike() {
     println!("{:?}\n{:?}\n{:?}", kinds.0, by_kind.0, features.0);
     kinds.assert_each(Kind::all(), TEXTS / 100);
     tally.rooms.assert_each(Room::ALL, TEXTS / 20);
-    tally.answers.assert_each([0, 1, 2, 10, 11, 21, 22, 23], TEXTS / 100);
+    tally.answers.assert_each([0, 1, 2, 10, 11, 21, 22, 23, 24], TEXTS / 100);
     tally.answers.assert_each([3, 4, 5, 6, 7, 8], TEXTS / 500);
     for kind in [Kind::Closed, Kind::NoLastLineFeed, Kind::Damaged(Damage::FieldChanged)] {
         by_kind.assert_each(VERDICTS.map(|number| (kind, number)), TEXTS / 500);
@@ -265,7 +288,9 @@ fn texts_of_each_kind_are_answered_alike() {
     features.assert_each(FEATURES.iter().map(|&(name, _)| name), TEXTS / 200);
     assert!(tally.lines.0.len() > 300, "{} lines were named only", tally.lines.0.len());
     assert!(tally.rows.0.len() > 150, "{} rows were named only", tally.rows.0.len());
-    tally.assert_each_word(TEXTS / 5_500);
+    let parameters = tally.parameters.0.len();
+    assert!(parameters > 40, "{parameters} parameters were named only");
+    tally.assert_each_word(TEXTS / 7_000);
     tally.finish(&format!("{TEXTS} texts"));
 }
 
@@ -293,18 +318,22 @@ fn features_of(text: &[u8]) -> impl Iterator<Item = &'static str> + '_ {
 fn tables_of_each_size_are_answered_alike() {
     let mut random = Random::seeded(2);
     let mut tally = Tally::default();
-    let mut sizes = Counts::default();
+    let (mut sizes, mut floors) = (Counts::default(), Counts::default());
     for _ in 0..TABLES {
         let text = closed_text(&mut random);
         let table = table(&text);
         assert!(table.closed());
         sizes.add(table.terms.len());
+        floors.add(Floors::of(&table));
         tally.compare(&mut random, "a closed table", &text, Room::Exact);
     }
+    println!("{:?}", floors.0);
     sizes.assert_each(1..=Table::TERM_LIMIT, 5);
+    floors.assert_each(Floors::ALL, TABLES / 50);
+    floors.assert_each([Floors::Plain, Floors::NoTyping, Floors::Met], TABLES / 8);
     assert_eq!(tally.answers.0.keys().copied().collect::<Vec<u32>>(), VERDICTS);
     tally.answers.assert_each(VERDICTS, TABLES / 20);
-    tally.assert_each_word(TABLES / 2_000);
+    tally.assert_each_word(TABLES / 5_000);
     tally.finish(&format!("{TABLES} closed tables"));
 }
 
@@ -314,6 +343,7 @@ fn tables_with_deep_sharing_are_answered_alike() {
     let mut tally = Tally::default();
     for _ in 0..SPECIAL_TABLES {
         let text = doubling(&mut random);
+        let text = text_with_floors(&mut random, &text);
         let types = table(&text).types;
         assert_eq!(types.len(), Table::TYPE_LIMIT);
         assert!((1..types.len()).all(|row| uses_twice(&types[row], row - 1)));
@@ -335,6 +365,7 @@ fn chains_of_256_rows_are_answered_alike() {
     let mut tally = Tally::default();
     for _ in 0..SPECIAL_TABLES {
         let text = chain(&mut random);
+        let text = text_with_floors(&mut random, &text);
         let table = table(&text);
         assert_eq!((table.terms.len(), table.closed()), (Table::TERM_LIMIT, true));
         tally.compare(&mut random, "a chain of 256 rows", &text, Room::Exact);
@@ -357,6 +388,6 @@ fn the_worst_texts_are_answered_alike_and_in_time() {
         }
     }
     tally.answers.assert_each([0, 1, 11, 21], 10);
-    tally.answers.assert_each([2, 3, 10, 22], 2);
+    tally.answers.assert_each([2, 3, 10, 22, 24], 2);
     tally.finish("the worst texts");
 }

@@ -2,7 +2,7 @@
 
 use crate::operation::Operation;
 use crate::qualifier::{Qualifier, FIRST_VARIABLE_CODE, NAMED_VARIABLES};
-use crate::rows::{Entry, QualifiedRow, Term, TypeRow};
+use crate::rows::{Entry, Parameter, QualifiedRow, Term, TypeRow};
 
 /// The greatest length of a line, without its line feed.
 pub const LONGEST_LINE: usize = 64;
@@ -15,7 +15,7 @@ pub fn read(line: &[u8]) -> Option<Entry> {
     let fields: Vec<&[u8]> = line.split(|&byte| byte == b',').collect();
     match *fields.as_slice() {
         [b"T", own, ref rest @ ..] => Some(Entry::T(small(own)?, type_row(rest)?)),
-        [b"P", own, qualifier, row] => Some(Entry::P(small(own)?, qualified_row(qualifier, row)?)),
+        [b"P", own, ref rest @ ..] => Some(Entry::P(small(own)?, parameter(rest)?)),
         [b"E", own, ref rest @ ..] => Some(Entry::E(small(own)?, term(rest)?)),
         _ => None,
     }
@@ -32,6 +32,16 @@ fn type_row(fields: &[&[u8]]) -> Option<TypeRow> {
         }),
         _ => None,
     }
+}
+
+/// Reads the fields of a parameter after its own number; without a floor it is PLAIN.
+fn parameter(fields: &[&[u8]]) -> Option<Parameter> {
+    let (qualifier, row, floor) = match *fields {
+        [qualifier, row] => (qualifier, row, Qualifier::Plain),
+        [qualifier, row, floor] => (qualifier, row, Qualifier::of_word(floor)?),
+        _ => return None,
+    };
+    Some(Parameter { qualifier: qualifier_code(qualifier)?, type_row: small(row)?, floor })
 }
 
 /// Reads the fields of a term row after its own number.

@@ -12,7 +12,7 @@ pub fn place(text: &[u8]) -> Vec<u8> {
     inferred(&table)
 }
 
-/// What is printed of an inference: the report, or the line of its refusal.
+/// What is printed of an inference: the report, or the line of its refusal with a row or a parameter.
 pub fn inferred(table: &Table) -> Vec<u8> {
     let mut report = vec![0; LONGEST_REPORT];
     let Answer { number, row, length } = table.infer(&mut report);
@@ -24,6 +24,8 @@ pub fn inferred(table: &Table) -> Vec<u8> {
 }
 
 /// What the C entry returns; the buffer is changed only if the program is accepted.
+///
+/// It is 100,000 + the report's length, or the refusal's number x 1,000 + its line, row or parameter.
 pub fn entry(text: &[u8], buffer: &mut [u8]) -> u32 {
     if buffer.len() < LONGEST_REPORT {
         return 11_000;

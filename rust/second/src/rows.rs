@@ -28,8 +28,16 @@ pub enum TypeRow {
     },
 }
 
-/// An entry of the list of parameters: its present qualifier and its type row.
-pub type Parameter = QualifiedRow;
+/// An entry of the list of parameters.
+#[derive(Clone, Copy, Debug, PartialEq, Eq)]
+pub struct Parameter {
+    /// Code of the present qualifier, as in a [`QualifiedRow`].
+    pub qualifier: u8,
+    /// Number of the type row.
+    pub type_row: u16,
+    /// The weakest qualifier that its owner tolerates; all are at or above PLAIN.
+    pub floor: Qualifier,
+}
 
 /// An entry of the list of term rows.
 #[derive(Clone, Copy, Debug, PartialEq, Eq)]
@@ -94,6 +102,13 @@ impl TypeRow {
             TypeRow::Int | TypeRow::Any => vec![],
             TypeRow::Arrow { argument, result } => vec![argument, result],
         }
+    }
+}
+
+impl Parameter {
+    /// The present qualifier with the type row: all of a parameter that its typings depend on.
+    pub fn declared(&self) -> QualifiedRow {
+        QualifiedRow { qualifier: self.qualifier, type_row: self.type_row }
     }
 }
 

@@ -1,17 +1,17 @@
 //! The table of three lists and its four calls.
 
 use crate::line;
-use crate::qualifier::GREATEST_CODE;
+use crate::qualifier::{at_or_below, GREATEST_CODE};
 use crate::report;
 use crate::rows::{Entry, Parameter, Term, TypeRow};
-use crate::typing;
+use crate::typing::{self, Judgement};
 
 /// The three lists. Entries come in only by [`Table::add`], so every reference is valid.
 #[derive(Clone, Debug, Default, PartialEq, Eq)]
 pub struct Table {
     /// The type rows.
     pub types: Vec<TypeRow>,
-    /// The parameters with their present qualifiers.
+    /// The parameters with their present qualifiers and their floors.
     pub params: Vec<Parameter>,
     /// The term rows.
     pub terms: Vec<Term>,
@@ -22,7 +22,7 @@ pub struct Table {
 pub struct Answer {
     /// 0, or the refusal's number.
     pub number: u32,
-    /// The row that 21, 22 or 23 names, otherwise 0.
+    /// The row that 21, 22 or 23 names, or the parameter that 24 names, otherwise 0.
     pub row: u32,
     /// The report's length in bytes, 0 for a refusal.
     pub length: u32,
@@ -57,7 +57,7 @@ impl Table {
         refusal
     }
 
-    /// Replaces a parameter's qualifier; returns 0 or the refusal's number.
+    /// Replaces a parameter's qualifier and leaves its floor; returns 0 or the refusal's number.
     pub fn redeclare(&mut self, parameter: u64, code: u64) -> u32 {
         let position = usize::try_from(parameter).ok();
         let Some(declared) = position.and_then(|position| self.params.get_mut(position)) else {
@@ -80,22 +80,34 @@ impl Table {
         }
     }
 
-    /// Writes the report into the buffer if the program has a typing; refusals leave it unchanged.
+    /// Writes the report into the buffer if the greatest typing meets every floor; refusals leave it unchanged.
     pub fn infer(&self, buffer: &mut [u8]) -> Answer {
+        let refused = |number, row| Answer { number, row, length: 0 };
         if buffer.len() < report::LONGEST_REPORT {
-            return Answer { number: 11, row: 0, length: 0 };
+            return refused(11, 0);
         }
         if !self.closed() {
-            return Answer { number: 10, row: 0, length: 0 };
+            return refused(10, 0);
         }
-        match typing::judge(self) {
-            Err(refusal) => Answer { number: refusal.number, row: refusal.row, length: 0 },
-            Ok(judgement) => {
-                let report = report::bytes(&judgement);
-                buffer[..report.len()].copy_from_slice(&report);
-                Answer { number: 0, row: 0, length: report.len() as u32 }
-            }
+        let judgement = match typing::judge(self) {
+            Err(refusal) => return refused(refusal.number, refusal.row),
+            Ok(judgement) => judgement,
+        };
+        if let Some(parameter) = self.missed_floors(&judgement).next() {
+            return refused(24, parameter as u32);
         }
+        let report = report::bytes(&judgement);
+        buffer[..report.len()].copy_from_slice(&report);
+        Answer { number: 0, row: 0, length: report.len() as u32 }
+    }
+
+    /// The parameters whose word in this table's judgement is not at or above their floor, rising.
+    pub fn missed_floors<'a>(
+        &'a self,
+        judgement: &'a Judgement,
+    ) -> impl Iterator<Item = usize> + 'a {
+        let met = |own: usize| at_or_below(self.params[own].floor, judgement.params[own].word);
+        (0..self.params.len()).filter(move |&own| !met(own))
     }
 
     /// Tells whether the program is closed.

@@ -1,10 +1,10 @@
-//! The programs to try of document 01, each with its whole output worked out from the rules.
+//! The programs to try of document 01, and some with the floors of document 02, each with its whole output worked out from the rules.
 
 use crate::generate::text_of_lines;
 
-/// A program to try, with what the document says of it.
+/// A program to try, with what the documents say of it.
 pub struct Try {
-    /// The program in the document's words.
+    /// The program in words.
     pub about: &'static str,
     /// The program, its last line ended by a line feed.
     pub text: Vec<u8>,
@@ -37,6 +37,7 @@ impl Try {
 pub fn all() -> Vec<Try> {
     let mut all = starred();
     all.extend(others());
+    all.extend(with_floors());
     all
 }
 
@@ -136,5 +137,48 @@ fn others() -> Vec<Try> {
         Try::accepted("NUM 4294967295", "E,0,NUM,4294967295", "OK,0,1 E,0,PLAIN,INT"),
         Try::refused("NUM 4294967296", "E,0,NUM,4294967296", "X,1,1", 1_001),
         Try::refused("APP of row 0 to row 0", "E,0,NUM,1 E,1,APP,0,0", "X,7,2", 7_002),
+    ]
+}
+
+/// Programs in which parameters have floors.
+fn with_floors() -> Vec<Try> {
+    let sum = |declared: &str| {
+        format!("T,0,ANY P,0,{declared} E,0,VAR,0 E,1,VAR,0 E,2,OP,ADD,0,1 E,3,LAM,0,2")
+    };
+    let report_a = "OK,1,4 G,0,AH P,0,AH,INT E,0,AH,INT E,1,AH,INT E,2,AH,INT E,3,PLAIN,ARROW";
+    vec![
+        Try::accepted("x + x, floor PLAIN", &sum("g0,0,PLAIN"), report_a),
+        Try::accepted("x + x, floor FHE", &sum("g0,0,FHE"), report_a),
+        Try::accepted("x + x, floor AH", &sum("g0,0,AH"), report_a),
+        // AH is neither at or above MH nor below it.
+        Try::refused("x + x, floor MH", &sum("g0,0,MH"), "NO,24,0", 24_000),
+        Try::refused("x + x, floor RAND", &sum("g0,0,RAND"), "NO,24,0", 24_000),
+        Try::refused("x declared FHE, x + x, floor AH", &sum("FHE,0,AH"), "NO,24,0", 24_000),
+        Try::refused("x declared RAND, x + x, floor RAND", &sum("RAND,0,RAND"), "NO,23,2", 23_002),
+        Try::refused("a variable as floor", "T,0,ANY P,0,g0,0,g0", "X,1,2", 1_002),
+        Try::accepted(
+            "body x, floor RAND",
+            "T,0,ANY P,0,g0,0,RAND E,0,VAR,0 E,1,LAM,0,0",
+            "OK,1,2 G,0,RAND P,0,RAND,ANY E,0,RAND,ANY E,1,PLAIN,ARROW",
+        ),
+        Try::refused(
+            "x + NUM, floor FHE",
+            "T,0,ANY P,0,g0,0,FHE E,0,VAR,0 E,1,NUM,7 E,2,OP,ADD,0,1 E,3,LAM,0,2",
+            "NO,24,0",
+            24_000,
+        ),
+        Try::refused(
+            "x < y, floors OP and DET",
+            "T,0,ANY T,1,ANY P,0,g0,0,OP P,1,g1,1,DET
+             E,0,VAR,0 E,1,VAR,1 E,2,OP,LT,0,1 E,3,LAM,1,2 E,4,LAM,0,3",
+            "NO,24,1",
+            24_001,
+        ),
+        Try::refused(
+            "NUM applied to NUM, floor RAND for a PLAIN x",
+            "T,0,ANY P,0,PLAIN,0,RAND E,0,NUM,1 E,1,NUM,2 E,2,APP,0,1 E,3,LAM,0,2",
+            "NO,21,2",
+            21_002,
+        ),
     ]
 }

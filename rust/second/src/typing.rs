@@ -2,7 +2,7 @@
 
 use crate::operation::Operation;
 use crate::qualifier::{Qualifier, FIRST_VARIABLE_CODE, NAMED_VARIABLES};
-use crate::rows::{QualifiedRow, Term, TypeRow};
+use crate::rows::{Parameter, QualifiedRow, Term, TypeRow};
 use crate::solution::{Qualified, Solution, TypeId};
 use crate::table::Table;
 
@@ -109,7 +109,7 @@ impl<'a> Inference<'a> {
 
     /// The qualified type of a parameter.
     fn parameter(&self, parameter: u16) -> Qualified {
-        self.declared(self.table.params[usize::from(parameter)])
+        self.declared(self.table.params[usize::from(parameter)].declared())
     }
 
     /// The qualified type of a term row.
@@ -169,7 +169,7 @@ impl<'a> Inference<'a> {
         let params = self.table.params.iter();
         Judgement {
             variables: standing_variables(self.table).into_iter().map(word).collect(),
-            params: params.map(|&parameter| slot(self.declared(parameter))).collect(),
+            params: params.map(|parameter| slot(self.declared(parameter.declared()))).collect(),
             terms: self.terms.iter().map(|&qualified| slot(qualified)).collect(),
         }
     }
@@ -183,7 +183,7 @@ fn constant(qualifier: Qualifier, type_id: TypeId) -> Qualified {
 /// The named variables in any T line or in a parameter's present qualifier, rising.
 fn standing_variables(table: &Table) -> Vec<u8> {
     let in_types = table.types.iter().flat_map(TypeRow::parts);
-    let declared = in_types.chain(table.params.iter().copied());
+    let declared = in_types.chain(table.params.iter().map(Parameter::declared));
     let codes: Vec<u8> = declared.map(|row| row.qualifier).collect();
     (0..NAMED_VARIABLES)
         .filter(|variable| codes.contains(&(FIRST_VARIABLE_CODE + variable)))

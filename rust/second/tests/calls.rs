@@ -3,6 +3,7 @@
 mod common;
 
 use common::{add_all, assert_prints, assert_refused, table};
+use second::qualifier::Qualifier;
 use second::rows::Parameter;
 use second::typing::judge;
 use second::{Answer, Table};
@@ -67,6 +68,7 @@ fn own_number_is_checked_before_the_rest() {
     let mut fresh = Table::fresh();
     assert_refused(&mut fresh, "T,9,ARROW,AH,100,AH,100", 2);
     assert_refused(&mut fresh, "P,9,AH,100", 2);
+    assert_refused(&mut fresh, "P,9,AH,100,AH", 2);
     assert_refused(&mut fresh, "E,9,VAR,100", 2);
     assert_refused(&mut fresh, "E,9,LAM,100,100", 2);
     assert_refused(&mut fresh, "E,9,APP,100,100", 2);
@@ -79,6 +81,7 @@ fn full_lists_are_checked_before_references() {
     assert_refused(&mut full, "T,64,ARROW,AH,64,AH,99", 3);
     assert_refused(&mut full, "P,64,AH,0", 3);
     assert_refused(&mut full, "P,64,AH,999", 3);
+    assert_refused(&mut full, "P,64,AH,999,RAND", 3);
     assert_refused(&mut full, "E,256,VAR,77", 3);
     assert_refused(&mut full, "E,256,LAM,77,256", 3);
     assert_refused(&mut full, "E,256,APP,256,256", 3);
@@ -95,6 +98,7 @@ fn type_rows_are_declared_before() {
     assert_refused(&mut table, "T,2,ARROW,AH,0,AH,2", 4);
     assert_refused(&mut table, "T,2,ARROW,AH,0,AH,65535", 4);
     assert_refused(&mut table, "P,0,AH,2", 4);
+    assert_refused(&mut table, "P,0,AH,2,AH", 4);
     add_all(&mut table, "T,2,ARROW,AH,1,AH,1 P,0,AH,2");
 }
 
@@ -225,11 +229,26 @@ fn redeclare_checks_the_parameter_before_the_code() {
 #[test]
 fn redeclare_replaces_one_qualifier() {
     let mut table = table("T,0,INT P,0,AH,0 P,1,g3,0");
+    let declared = |qualifier| Parameter { qualifier, type_row: 0, floor: Qualifier::Plain };
     for code in 0..=70 {
-        assert_eq!(table.redeclare(1, code), 0);
-        let expected = Parameter { qualifier: code as u8, type_row: 0 };
-        assert_eq!(table.params, [Parameter { qualifier: 5, type_row: 0 }, expected]);
+        assert_eq!(table.redeclare(1, code.into()), 0);
+        assert_eq!(table.params, [declared(5), declared(code)]);
     }
+}
+
+#[test]
+fn redeclare_leaves_type_row_and_floor() {
+    let mut table = table("T,0,INT T,1,ANY P,0,AH,1,DET P,1,g3,0 P,2,g3,1,RAND");
+    let before = table.clone();
+    for (parameter, floor) in [(0, Qualifier::Det), (1, Qualifier::Plain), (2, Qualifier::Rand)] {
+        let Parameter { qualifier, type_row, .. } = before.params[parameter];
+        for code in 0..=70 {
+            assert_eq!(table.redeclare(parameter as u64, code.into()), 0);
+            assert_eq!(table.params[parameter], Parameter { qualifier: code, type_row, floor });
+        }
+        assert_eq!(table.redeclare(parameter as u64, qualifier.into()), 0);
+    }
+    assert_eq!(table, before);
 }
 
 #[test]

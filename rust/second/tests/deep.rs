@@ -125,6 +125,19 @@ fn parameters_are_joined_in_any_order() {
 }
 
 #[test]
+fn floors_of_joined_parameters_are_tested() {
+    let without = String::from_utf8(place(&text(&deep::joined_parameters(false)))).unwrap();
+    for met in ["PLAIN", "FHE", "AH"] {
+        let program = deep::joined_parameters_with_floors(met);
+        assert_eq!(program.matches(",AH ").count(), if met == "AH" { 63 } else { 62 });
+        assert_starts_quickly(&program, &without);
+    }
+    for missed in ["OP", "DET", "MH", "RAND"] {
+        assert_starts_quickly(&deep::joined_parameters_with_floors(missed), "NO,24,62\n");
+    }
+}
+
+#[test]
 fn all_deep_programs_are_closed() {
     for (name, lines) in deep::all() {
         assert!(table(&lines).closed(), "{name}");

@@ -2,16 +2,21 @@
 
 use second::generate::{
     any_bytes, call_list, chain, changed_line, closed_program, damaged_line, damaged_text,
-    doubling, opened, text_of_table, what_if_list, Call, Damage, Opening, Program, Random,
+    doubling, opened, program_with_floors, text_of_table, text_with_floors, what_if_list, Call,
+    Damage, Floors, Opening, Program, Random, WRONG_FLOORS,
 };
 use second::line::read;
 use second::place::{inferred, lines};
-use second::rows::TypeRow;
+use second::qualifier::{at_or_below, Qualifier};
+use second::rows::{Entry, TypeRow};
 use second::typing::{judge, Shape};
 use second::{entry, place, Answer, Table};
 use std::collections::BTreeMap;
 
-/// So many programs of random sizes.
+/// The answers to closed programs: accepted, or the number of a refusal.
+const VERDICTS: [u32; 5] = [0, 21, 22, 23, 24];
+
+/// So many programs of random sizes, most of them with floors.
 fn programs(seed: u64, count: usize) -> Vec<Program> {
     let mut random = Random::seeded(seed);
     let size = |random: &mut Random| match random.below(3) {
@@ -22,7 +27,7 @@ fn programs(seed: u64, count: usize) -> Vec<Program> {
     (0..count)
         .map(|_| {
             let rows = size(&mut random);
-            closed_program(&mut random, rows)
+            program_with_floors(&mut random, rows)
         })
         .collect()
 }
@@ -77,9 +82,86 @@ fn all_verdicts_occur_often() {
     for program in programs(22, 2000) {
         *counts.entry(number(&program.table())).or_insert(0) += 1;
     }
-    assert!(counts.keys().eq(&[0, 21, 22, 23]), "{counts:?}");
-    assert!(counts[&0] > 600, "{counts:?}");
+    assert!(counts.keys().eq(&VERDICTS), "{counts:?}");
+    assert!(counts[&0] > 600 && counts[&24] > 200, "{counts:?}");
     assert!(counts.values().all(|&count| count > 100), "{counts:?}");
+}
+
+#[test]
+fn floors_are_met_and_missed_often() {
+    let (mut counts, mut named, mut explicit) = (BTreeMap::new(), BTreeMap::new(), 0);
+    for program in programs(37, 2000) {
+        let table = program.table();
+        let (floors, Answer { number, row, .. }) =
+            (Floors::of(&table), table.infer(&mut [0; 6280]));
+        *counts.entry(floors).or_insert(0) += 1;
+        match floors {
+            Floors::Plain => assert_ne!(number, 24),
+            Floors::NoTyping => assert!((21..=23).contains(&number)),
+            Floors::Met => assert_eq!(number, 0),
+            Floors::OneMissed | Floors::SeveralMissed => {
+                assert_eq!(number, 24);
+                *named.entry(row).or_insert(0) += 1;
+            }
+        }
+        let is_explicit = |line: &String| line.starts_with('P') && line.ends_with(",PLAIN");
+        explicit += program.lines.iter().filter(|line| is_explicit(line)).count();
+    }
+    assert!(counts.keys().eq(&Floors::ALL), "{counts:?}");
+    assert!(counts[&Floors::Plain] > 500 && counts[&Floors::Met] > 300, "{counts:?}");
+    assert!(counts[&Floors::NoTyping] > 300, "{counts:?}");
+    assert!(counts[&Floors::OneMissed] > 50 && counts[&Floors::SeveralMissed] > 100, "{counts:?}");
+    assert!(named.len() > 20, "{named:?}");
+    assert!(explicit > 500, "{explicit} floors are written as PLAIN");
+}
+
+#[test]
+fn each_floor_stands_under_each_word() {
+    let (mut met, mut missed) = (BTreeMap::new(), BTreeMap::new());
+    for program in programs(38, 2000) {
+        let table = program.table();
+        let Ok(judgement) = judge(&table) else {
+            continue;
+        };
+        let accepted = number(&table) == 0;
+        for (parameter, slot) in table.params.iter().zip(&judgement.params) {
+            let counts = if accepted { &mut met } else { &mut missed };
+            *counts.entry((parameter.floor.code(), slot.word.code())).or_insert(0) += 1;
+        }
+    }
+    for floor in Qualifier::ALL {
+        for word in Qualifier::ALL {
+            let counts = if at_or_below(floor, word) { &met } else { &missed };
+            let count = counts.get(&(floor.code(), word.code())).copied().unwrap_or(0);
+            assert!(count > 5, "{floor:?} stands under {word:?} {count} times only");
+        }
+    }
+}
+
+#[test]
+fn floors_are_all_that_is_added_to_a_program() {
+    for seed in 0..200 {
+        let rows = 1 + seed as usize;
+        let without = closed_program(&mut Random::seeded(seed), rows);
+        let with = program_with_floors(&mut Random::seeded(seed), rows);
+        assert_eq!(with.redeclarations, without.redeclarations);
+        assert_eq!(with.lines.len(), without.lines.len());
+        let mut table = with.table();
+        table.params.iter_mut().for_each(|parameter| parameter.floor = Qualifier::Plain);
+        assert_eq!(table, without.table());
+    }
+}
+
+#[test]
+fn programs_without_floors_have_no_24() {
+    let mut random = Random::seeded(39);
+    let mut counts = BTreeMap::new();
+    for _ in 0..500 {
+        let table = closed_program(&mut random, 60).table();
+        assert_eq!(Floors::of(&table), Floors::Plain);
+        *counts.entry(number(&table)).or_insert(0) += 1;
+    }
+    assert!(counts.keys().eq(&VERDICTS[..4]), "{counts:?}");
 }
 
 #[test]
@@ -87,11 +169,11 @@ fn all_verdicts_occur_in_large_programs() {
     let mut random = Random::seeded(23);
     let (mut counts, mut full) = (BTreeMap::new(), 0);
     for _ in 0..400 {
-        let table = closed_program(&mut random, 256).table();
+        let table = program_with_floors(&mut random, 256).table();
         full += usize::from(table.terms.len() == 256);
         *counts.entry(number(&table)).or_insert(0) += 1;
     }
-    assert!(counts.keys().eq(&[0, 21, 22, 23]), "{counts:?}");
+    assert!(counts.keys().eq(&VERDICTS), "{counts:?}");
     assert!(counts.values().all(|&count| count > 20), "{counts:?}");
     assert!(full > 100, "{full} programs have 256 rows");
 }
@@ -153,6 +235,42 @@ fn damaged_lines_are_read_or_not() {
     assert!((0..200).all(|_| any_bytes(&mut random, 70).len() <= 70));
     assert!((0..200).all(|_| damaged_line(&mut random, b"").len() <= 80));
     assert!((0..200).all(|_| damaged_text(&mut random, b"").len() <= 80));
+}
+
+#[test]
+fn damaged_lines_of_parameters_have_wrong_floors() {
+    let mut random = Random::seeded(43);
+    let mut wrong = BTreeMap::new();
+    for line in ["P,0,g0,0", "P,1,AH,7,RAND"] {
+        for _ in 0..2000 {
+            let damaged = damaged_line(&mut random, line.as_bytes());
+            let text = String::from_utf8_lossy(&damaged).into_owned();
+            for floor in WRONG_FLOORS {
+                let declared: Vec<&str> = line.splitn(5, ',').take(4).collect();
+                if text == format!("{},{floor}", declared.join(",")) {
+                    assert_eq!(read(&damaged), None, "for the line {text}");
+                    *wrong.entry(floor).or_insert(0) += 1;
+                }
+            }
+        }
+    }
+    assert!(wrong.len() == WRONG_FLOORS.len(), "{wrong:?}");
+    assert!(wrong.values().all(|&count| count > 10), "{wrong:?}");
+}
+
+#[test]
+fn changed_lines_of_parameters_stay_well_formed() {
+    let mut random = Random::seeded(44);
+    let mut floors = BTreeMap::new();
+    for _ in 0..2000 {
+        let changed = changed_line(&mut random, b"P,1,AH,7,DET");
+        let Some(Entry::P(1, parameter)) = read(&changed) else {
+            panic!("{} is not read", changed.escape_ascii());
+        };
+        *floors.entry(parameter.floor.word()).or_insert(0) += 1;
+        assert!(read(&changed_line(&mut random, b"P,1,AH,7")).is_some());
+    }
+    assert!(floors.len() == 7 && floors.values().all(|&count| count > 50), "{floors:?}");
 }
 
 #[test]
@@ -223,11 +341,12 @@ fn all_verdicts_occur_in_deep_and_long_programs() {
         let mut random = Random::seeded(36);
         let mut counts = BTreeMap::new();
         for _ in 0..400 {
-            let returned = entry(&generate(&mut random), &mut [0; 6280]);
+            let text = generate(&mut random);
+            let returned = entry(&text_with_floors(&mut random, &text), &mut [0; 6280]);
             let number = if returned > 100_000 { 0 } else { returned / 1_000 };
             *counts.entry(number).or_insert(0) += 1;
         }
-        assert!(counts.keys().eq(&[0, 21, 22, 23]), "{counts:?}");
+        assert!(counts.keys().eq(&VERDICTS), "{counts:?}");
     }
 }
 
@@ -257,7 +376,7 @@ fn the_entry_and_place_agree_on_damaged_texts() {
         let number = if returned > 100_000 { 0 } else { returned / 1_000 };
         *counts.entry(number).or_insert(0) += 1;
     }
-    for number in [0, 1, 2, 4, 5, 6, 7, 8, 10, 21, 22, 23] {
+    for number in [0, 1, 2, 4, 5, 6, 7, 8, 10, 21, 22, 23, 24] {
         assert!(counts.contains_key(&number), "{number} does not occur: {counts:?}");
     }
 }
@@ -310,6 +429,7 @@ fn random_calls_meet_every_number() {
     for number in [0, 1, 2, 4, 5, 6, 7, 8, 10, 11, 12, 21, 22, 23] {
         assert!(counts.contains_key(&number), "{number} does not occur: {counts:?}");
     }
+    assert!(counts[&24] > 100, "{counts:?}");
 }
 
 #[test]
@@ -335,4 +455,58 @@ fn questions_are_accepted_and_often_change_the_answer() {
         assert!(table.closed());
     }
     assert!(infers >= 2_400 && changed > infers / 3, "{changed} of {infers} were changed only");
+}
+
+/// How often a redeclaration alone makes a list of calls miss a floor that was met, and meet one that was missed.
+#[derive(Debug, Default)]
+struct Turns {
+    missed: usize,
+    met: usize,
+    /// Lists in which both happen.
+    both: usize,
+}
+
+impl Turns {
+    /// Makes the calls of a list on a fresh table and counts its turns.
+    fn take(&mut self, calls: &[Call]) {
+        let (mut table, mut before, mut redeclared_only) = (Table::fresh(), None, false);
+        let (mut missed, mut met) = (0, 0);
+        for call in calls {
+            let floors: Vec<Qualifier> = table.params.iter().map(|it| it.floor).collect();
+            let number = make(&mut table, call);
+            match call {
+                Call::Redeclare(..) => {
+                    assert!(table.params.iter().map(|it| it.floor).eq(floors));
+                }
+                Call::Infer(..) if number != 11 => {
+                    missed += usize::from(redeclared_only && (before, number) == (Some(0), 24));
+                    met += usize::from(redeclared_only && (before, number) == (Some(24), 0));
+                    (before, redeclared_only) = (Some(number), true);
+                }
+                _ => redeclared_only &= number != 0,
+            }
+        }
+        self.missed += missed;
+        self.met += met;
+        self.both += usize::from(missed > 0 && met > 0);
+    }
+
+    /// Asserts that each turn happens so often.
+    fn assert_each(&self, fewest: usize) {
+        let Turns { missed, met, both } = *self;
+        assert!(missed >= fewest && met >= fewest && both >= fewest, "{self:?}");
+    }
+}
+
+#[test]
+fn redeclarations_miss_and_meet_floors() {
+    let mut random = Random::seeded(45);
+    let (mut questions, mut built) = (Turns::default(), Turns::default());
+    for _ in 0..400 {
+        let rows = random.between(1, 60);
+        questions.take(&what_if_list(&mut random, rows, 5));
+        built.take(&call_list(&mut random, rows));
+    }
+    questions.assert_each(40);
+    built.assert_each(40);
 }

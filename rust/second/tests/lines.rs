@@ -3,6 +3,7 @@
 mod common;
 
 use common::assert_prints;
+use second::generate::WRONG_FLOORS;
 use second::line::read;
 use second::operation::Operation;
 use second::qualifier::Qualifier;
@@ -37,8 +38,50 @@ fn type_rows_are_read() {
 
 #[test]
 fn parameters_are_read() {
-    let parameter = Parameter { qualifier: 6, type_row: 9 };
+    let parameter = Parameter { qualifier: 6, type_row: 9, floor: Qualifier::Plain };
     assert_eq!(read(b"P,3,RAND,9"), Some(Entry::P(3, parameter)));
+    let parameter = Parameter { qualifier: 70, type_row: 65535, floor: Qualifier::Det };
+    assert_eq!(read(b"P,65535,g63,65535,DET"), Some(Entry::P(65535, parameter)));
+}
+
+#[test]
+fn a_floor_is_one_of_the_seven_words() {
+    let words = ["PLAIN", "FHE", "OP", "DET", "MH", "AH", "RAND"];
+    for (expected, word) in (0..).zip(words) {
+        for (code, qualifier) in (0..).zip(words) {
+            let line = format!("P,1,{qualifier},2,{word}");
+            let Some(Entry::P(1, parameter)) = read(line.as_bytes()) else {
+                panic!("{line} is not read");
+            };
+            assert_eq!(parameter.floor.code(), expected);
+            assert_eq!(parameter.declared(), QualifiedRow { qualifier: code, type_row: 2 });
+        }
+    }
+    assert_eq!(read(b"P,1,g7,2"), read(b"P,1,g7,2,PLAIN"));
+    assert_ne!(read(b"P,1,g7,2"), read(b"P,1,g7,2,FHE"));
+}
+
+#[test]
+fn other_floors_are_not_read() {
+    assert_unread(&["P,0,g0,0,g0", "P,0,g0,0,g63", "P,0,g0,0,", "P,0,g0,0,ah", "P,0,g0,0,Plain"]);
+    assert_unread(&["P,0,g0,0,AH,", "P,0,g0,0,AH,AH", "P,0,g0,0,PLAIN,0", "P,0,g0,0,,AH"]);
+    assert_unread(&["P,0,g0,0,0", "P,0,g0,0,5", "P,0,g0,0,INT", "P,0,g0,0,ADD", "P,0,g0,0,ANY"]);
+    assert_unread(&["P,0,g0,0,AH ", "P,0,g0,0, AH", "P,0,g0,0,AH\r", "P,0,g0,0,AHH", "P,0,g0,0,A"]);
+    // A floor follows the type row and nothing else, and only a P line has one.
+    assert_unread(&["P,0,g0,AH,0", "P,0,AH,g0,0", "P,0,AH,AH", "P,0,AH,0,00", "P,AH,g0,0"]);
+    assert_unread(&["T,0,INT,AH", "T,0,ANY,PLAIN", "E,0,VAR,0,AH", "E,1,LAM,0,0,AH"]);
+    for wrong in WRONG_FLOORS {
+        assert_unread(&[&format!("P,0,g0,0,{wrong}")]);
+    }
+}
+
+#[test]
+fn a_line_with_another_floor_is_refused_with_1() {
+    // 1 comes before 2 and 4: the own number is not the next, and there is no type row.
+    assert_eq!(Table::fresh().add(b"P,7,g0,9,g0"), 1);
+    assert_eq!(Table::fresh().add(b"P,7,g0,9,AH"), 2);
+    assert_eq!(Table::fresh().add(b"P,0,g0,9,AH"), 4);
+    assert_prints("T,0,INT P,0,g0,0,ah", "X,1,2");
 }
 
 #[test]
@@ -100,11 +143,13 @@ fn only_the_six_schemes_encrypt() {
 fn numbers_have_their_limits() {
     assert!(read(b"T,65535,INT").is_some());
     assert!(read(b"P,65535,AH,65535").is_some());
+    assert!(read(b"P,65535,AH,65535,AH").is_some());
     assert!(read(b"E,65535,LAM,65535,65535").is_some());
     assert!(read(b"E,0,NUM,0").is_some());
     assert!(read(b"E,0,ENC,AH,4294967295").is_some());
     assert_unread(&["T,65536,INT", "T,1,ARROW,AH,65536,AH,0", "T,1,ARROW,AH,0,AH,65536"]);
     assert_unread(&["P,65536,AH,0", "P,0,AH,65536", "E,65536,NUM,1", "E,0,VAR,65536"]);
+    assert_unread(&["P,65536,AH,0,AH", "P,0,AH,65536,AH"]);
     assert_unread(&["E,0,LAM,65536,0", "E,0,LAM,0,65536", "E,0,APP,65536,0", "E,0,APP,0,65536"]);
     assert_unread(&["E,0,OP,ADD,65536,0", "E,0,OP,ADD,0,65536", "E,0,ENC,AH,4294967296"]);
     assert_unread(&["E,0,NUM,4294967296", "E,0,NUM,42949672950", "E,0,NUM,9999999999"]);

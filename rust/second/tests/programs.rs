@@ -15,7 +15,7 @@ fn program_a_is_printed_in_full() {
 }
 
 #[test]
-fn each_program_to_try_is_printed_as_document_01_says() {
+fn each_program_to_try_is_printed_as_the_documents_say() {
     for Try { about, text, prints, .. } in to_try::all() {
         let printed = place(&text);
         assert_eq!(
@@ -27,7 +27,7 @@ fn each_program_to_try_is_printed_as_document_01_says() {
 }
 
 #[test]
-fn each_program_to_try_is_answered_as_document_01_says() {
+fn each_program_to_try_is_answered_as_the_documents_say() {
     for program in to_try::all() {
         let mut buffer = [0x5A; 6280];
         assert_eq!(entry(&program.text, &mut buffer), program.returns, "{}", program.about);

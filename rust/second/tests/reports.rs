@@ -117,7 +117,9 @@ fn a_buffer_of_6280_bytes_suffices_and_6279_do_not() {
 
 #[test]
 fn the_entry_checks_a_short_buffer_first() {
-    for text in [&b""[..], b"FOO", b"E,0,NUM,1\n", b"E,0,NUM,1\nE,1,NUM,2\nE,2,APP,0,1\n"] {
+    let missed_floor = b"T,0,INT\nP,0,AH,0,MH\nE,0,VAR,0\nE,1,LAM,0,0\n";
+    let no_typing = b"E,0,NUM,1\nE,1,NUM,2\nE,2,APP,0,1\n";
+    for text in [&b""[..], b"FOO", b"E,0,NUM,1\n", no_typing, missed_floor] {
         for length in [0, 1, 6279] {
             let mut buffer = vec![3; length];
             assert_eq!(entry(text, &mut buffer), 11_000);
@@ -127,7 +129,7 @@ fn the_entry_checks_a_short_buffer_first() {
 }
 
 #[test]
-fn the_entry_returns_number_and_line_or_row() {
+fn the_entry_returns_number_and_line_or_row_or_parameter() {
     assert_entry_refuses(b"", 10_000);
     assert_entry_refuses(b"\n", 1_001);
     assert_entry_refuses(b"E,0,NUM,1\nE,2,NUM,1\n", 2_002);
@@ -140,7 +142,24 @@ fn the_entry_returns_number_and_line_or_row() {
     assert_entry_refuses(b"E,0,NUM,1\nE,1,NUM,2\nE,2,APP,0,1\n", 21_002);
     assert_entry_refuses(b"E,0,NUM,1\nE,1,ENC,AH,2\nE,2,OP,ADD,0,1\n", 22_002);
     assert_entry_refuses(b"E,0,ENC,MH,1\nE,1,ENC,MH,2\nE,2,OP,ADD,0,1\n", 23_002);
+    assert_entry_refuses(b"T,0,INT\nP,0,AH,0,MH\nE,0,VAR,0\nE,1,LAM,0,0\n", 24_000);
+    assert_entry_refuses(b"T,0,INT\nP,0,AH,0,ah\nE,0,VAR,0\nE,1,LAM,0,0\n", 1_002);
     assert_entry_accepts(b"E,0,ENC,MH,1", b"OK,0,1\nE,0,MH,INT\n");
+    assert_entry_accepts(
+        b"T,0,INT\nP,0,AH,0,FHE\nE,0,VAR,0\nE,1,LAM,0,0\n",
+        b"OK,1,2\nP,0,AH,INT\nE,0,AH,INT\nE,1,PLAIN,ARROW\n",
+    );
+}
+
+#[test]
+fn the_entry_names_the_last_possible_parameter() {
+    let mut lines = String::from("T,0,INT E,0,NUM,1");
+    for own in 0..64 {
+        let floor = if own == 63 { "RAND" } else { "AH" };
+        lines += &format!(" P,{own},AH,0,{floor} E,{},LAM,{own},{own}", own + 1);
+    }
+    assert_entry_refuses(&text(&lines), 24_063);
+    assert_eq!(place(&text(&lines)), b"NO,24,63\n");
 }
 
 #[test]

@@ -113,6 +113,8 @@ fn each_refusal_of_an_add_has_its_number() {
         ("add P,0,AH,0", "4"),
         ("add E,0,VAR,0", "5"),
         ("add T,0,INT", "0"),
+        ("add P,0,AH,0,g0", "1"),
+        ("add P,0,AH,0,AH,AH", "1"),
         ("add P,0,AH,0", "0"),
         ("add E,0,LAM,0,0", "6"),
         ("add E,0,VAR,0", "0"),
@@ -218,6 +220,62 @@ fn an_inference_goes_by_the_present_qualifiers() {
             ("infer", "OK,1,4 G,4,AH P,0,AH,INT E,0,AH,INT E,1,AH,INT E,2,AH,INT E,3,PLAIN,ARROW"),
             ("redeclare 0 7", "0"),
             ("infer", REPORT_A),
+        ],
+    );
+}
+
+#[test]
+fn a_floor_stays_while_its_parameter_is_redeclared() {
+    let program = PROGRAM_A.join(" ").replace("P,0,g0,0", "P,0,g0,0,AH");
+    let report = "OK,1,4 P,0,AH,INT E,0,AH,INT E,1,AH,INT E,2,AH,INT E,3,PLAIN,ARROW";
+    assert_after(
+        &program,
+        &[
+            ("infer", REPORT_A),
+            // FHE supports ADD, but it is below AH.
+            ("redeclare 0 1", "0"),
+            ("infer", "NO,24,0"),
+            ("infer", "NO,24,0"),
+            ("redeclare 0 5", "0"),
+            ("infer", report),
+            ("redeclare 0 0", "0"),
+            ("infer", "NO,24,0"),
+            // RAND is above AH, but it does not support ADD.
+            ("redeclare 0 6", "0"),
+            ("infer", "NO,23,2"),
+            ("redeclare 0 0", "0"),
+            ("redeclare 0 71", "12"),
+            ("add P,0,AH,0", "2"),
+            ("infer", "NO,24,0"),
+            ("take-back", "0"),
+            ("infer", "NO,10,0"),
+            ("add E,3,LAM,0,2", "0"),
+            ("infer", "NO,24,0"),
+            ("redeclare 0 7", "0"),
+            ("infer", REPORT_A),
+        ],
+    );
+}
+
+#[test]
+fn the_lowest_parameter_below_its_floor_is_named() {
+    assert_after(
+        "T,0,INT P,0,g0,0,DET P,1,OP,0,DET P,2,AH,0,MH E,0,NUM,1 E,1,LAM,0,0 E,2,LAM,1,1
+         E,3,LAM,2,2",
+        &[
+            ("infer", "NO,24,1"),
+            ("redeclare 1 3", "0"),
+            ("infer", "NO,24,2"),
+            ("redeclare 0 4", "0"),
+            ("infer", "NO,24,0"),
+            ("redeclare 2 6", "0"),
+            ("infer", "NO,24,0"),
+            ("redeclare 0 3", "0"),
+            (
+                "infer",
+                "OK,3,4 P,0,DET,INT P,1,DET,INT P,2,RAND,INT E,0,PLAIN,INT E,1,PLAIN,ARROW
+                 E,2,PLAIN,ARROW E,3,PLAIN,ARROW",
+            ),
         ],
     );
 }

@@ -12,6 +12,7 @@ mod report;
 mod solver;
 mod types;
 
+use qualifiers::at_or_below;
 use second::report::LONGEST_REPORT;
 use second::{Answer, Table};
 
@@ -29,11 +30,19 @@ pub fn infer(solver: &mut Solver, slots: &mut Slots, table: &Table, buffer: &mut
     if !closed(table) {
         return refused(10, 0);
     }
-    match solver.solve(table, slots) {
-        Ok(()) => {
-            let length = report::write(table, slots, buffer);
-            Answer { number: 0, row: 0, length: length as u32 }
-        }
-        Err(refusal) => refused(refusal.number(), refusal.row()),
+    if let Err(refusal) = solver.solve(table, slots) {
+        return refused(refusal.number(), refusal.row());
     }
+    if let Some(parameter) = missed_floor(table, slots) {
+        return refused(24, parameter);
+    }
+    let length = report::write(table, slots, buffer);
+    Answer { number: 0, row: 0, length: length as u32 }
+}
+
+/// The lowest parameter whose word is not at or above its floor.
+fn missed_floor(table: &Table, slots: &Slots) -> Option<u32> {
+    let mut params = table.params.iter().zip(&slots.params);
+    let missed = params.position(|(param, slot)| !at_or_below(param.floor.code(), slot.word));
+    missed.map(|parameter| parameter as u32)
 }

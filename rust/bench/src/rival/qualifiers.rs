@@ -112,13 +112,18 @@ impl Qualifiers {
     /// Notes whether a changed class has become impossible.
     fn test(&mut self, root: usize) {
         let Class { constant, bound, .. } = self.class[root];
-        self.broken |= constant != NONE && meet(constant, bound) != constant;
+        self.broken |= constant != NONE && !at_or_below(constant, bound);
     }
 
     /// The root above a node.
     fn find(&mut self, node: Node) -> usize {
         root(&mut self.parent, node)
     }
+}
+
+/// Tells whether one of the seven qualifiers is at or below another.
+pub fn at_or_below(lower: u8, upper: u8) -> bool {
+    meet(lower, upper) == lower
 }
 
 /// The greatest lower bound of two of the seven qualifiers.

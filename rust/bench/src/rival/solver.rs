@@ -129,7 +129,7 @@ impl Solver {
 
     /// Takes the equations of a row; gives its qualified type.
     fn rule(&mut self, table: &Table, term: Term) -> Result<Qualified, Stop> {
-        let parameter = |parameter: u16| declared(table.params[usize::from(parameter)]);
+        let parameter = |own: u16| declared(table.params[usize::from(own)].declared());
         Ok(match term {
             Term::Lambda { parameter: own, body } => {
                 let node = self.types.fresh_arrow(parameter(own), self.rows[usize::from(body)]);
@@ -214,11 +214,11 @@ impl Solver {
                 self.read_variable(result, slots);
             }
         }
-        for (&param, slot) in table.params.iter().zip(&mut slots.params) {
-            *slot = self.slot(declared(param));
+        for (param, slot) in table.params.iter().zip(&mut slots.params) {
+            *slot = self.slot(declared(param.declared()));
         }
-        for &param in &table.params {
-            self.read_variable(param, slots);
+        for param in &table.params {
+            self.read_variable(param.declared(), slots);
         }
         for (row, slot) in slots.terms[..table.terms.len()].iter_mut().enumerate() {
             *slot = self.slot(self.rows[row]);

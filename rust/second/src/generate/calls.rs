@@ -1,9 +1,12 @@
 //! Random lists of calls on one table, accepted and refused.
 
 use super::damage::{any_bytes, changed_line, damaged_line};
-use super::program::closed_program;
+use super::floors::program_with_floors;
 use super::random::Random;
+use crate::qualifier::{at_or_below, Qualifier};
 use crate::report::LONGEST_REPORT;
+use crate::rows::Parameter;
+use crate::table::Table;
 
 /// One call on a table.
 #[derive(Clone, Debug, PartialEq, Eq)]
@@ -18,9 +21,15 @@ pub enum Call {
     Infer(usize, u8),
 }
 
+impl Call {
+    /// An infer with a buffer that is long enough.
+    pub const INFER: Call = Call::Infer(LONGEST_REPORT, 0);
+}
+
 /// Calls that build a program of up to so many rows, with other calls between, accepted and refused.
 pub fn call_list(random: &mut Random, rows: usize) -> Vec<Call> {
-    let program = closed_program(random, rows);
+    let program = program_with_floors(random, rows);
+    let table = program.table();
     let mut calls = vec![];
     let mut rows_added: Vec<Vec<u8>> = vec![];
     for line in program.lines {
@@ -39,7 +48,11 @@ pub fn call_list(random: &mut Random, rows: usize) -> Vec<Call> {
     for (parameter, code) in program.redeclarations {
         calls.push(Call::Redeclare(parameter, code));
     }
-    calls.push(Call::Infer(LONGEST_REPORT, 0));
+    calls.push(Call::INFER);
+    if let Some(lowered) = lowered_and_restored(random, &table) {
+        calls.extend(lowered);
+        calls.push(Call::INFER);
+    }
     calls.extend(taken_back_and_added(random, &rows_added));
     calls.push(redeclare(random));
     calls.push(Call::Infer(random.between(LONGEST_REPORT, LONGEST_REPORT + 40), 255));
@@ -65,6 +78,20 @@ fn taken_back_and_added(random: &mut Random, rows_added: &[Vec<u8>]) -> Vec<Call
     calls.push(infer(random));
     calls.extend(again.iter().cloned().map(Call::Add));
     calls
+}
+
+/// A redeclaration that cannot meet a parameter's floor, an infer, and a redeclaration as the table has it.
+///
+/// `None` if every floor is PLAIN, which is always met.
+pub fn lowered_and_restored(random: &mut Random, table: &Table) -> Option<Vec<Call>> {
+    let has_floor = |&own: &usize| table.params[own].floor != Qualifier::Plain;
+    let candidates: Vec<usize> = (0..table.params.len()).filter(has_floor).collect();
+    let &own = random.pick(&candidates)?;
+    let Parameter { qualifier, floor, .. } = table.params[own];
+    let misses = |word: &Qualifier| !at_or_below(floor, *word);
+    let lower: Vec<Qualifier> = Qualifier::ALL.into_iter().filter(misses).collect();
+    let redeclare = |code: u8| Call::Redeclare(own as u64, code.into());
+    Some(vec![redeclare(random.pick(&lower)?.code()), Call::INFER, redeclare(qualifier)])
 }
 
 /// A redeclaration, mostly with numbers near the limits.

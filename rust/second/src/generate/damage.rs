@@ -1,6 +1,6 @@
 //! Damaged lines, near the limits of what is accepted.
 
-use super::goals::any_code;
+use super::goals::{any_code, any_word};
 use super::random::Random;
 use super::text::code_text;
 use crate::operation::Operation;
@@ -13,6 +13,15 @@ const FIELDS: [&str; 40] = [
     "g64", "g00",
 ];
 
+/// The place of a floor among the fields of a P line.
+const FLOOR_FIELD: usize = 4;
+
+/// What may not stand behind the first four fields of a P line: fields that are no floor, or too many fields.
+pub const WRONG_FLOORS: [&str; 24] = [
+    "", "g0", "g63", "G0", "ah", "plain", "Rand", "INT", "ANY", "ADD", "NONE", "AHH", "A", "0",
+    "5", "-1", " AH", "AH ", "AH\r", "AH,", ",AH", "AH,AH", "PLAIN,PLAIN", "RAND,0",
+];
+
 /// So many bytes or fewer, of any values.
 pub fn any_bytes(random: &mut Random, longest: usize) -> Vec<u8> {
     let length = random.between(0, longest);
@@ -21,6 +30,9 @@ pub fn any_bytes(random: &mut Random, longest: usize) -> Vec<u8> {
 
 /// A line with one change to its bytes or its fields; some changes leave it well formed.
 pub fn damaged_line(random: &mut Random, line: &[u8]) -> Vec<u8> {
+    if line.starts_with(b"P,") && random.one_in(4) {
+        return with_wrong_floor(random, line);
+    }
     let mut damaged = line.to_vec();
     let position = random.below(line.len());
     match random.below(8) {
@@ -43,12 +55,20 @@ fn with_other_field(random: &mut Random, line: &[u8]) -> Vec<u8> {
     let position = random.below(fields.len());
     let field = FIELDS[random.below(FIELDS.len())].as_bytes();
     match random.below(6) {
-        0 => fields.insert(position, field),
+        0 => fields.insert(random.between(0, fields.len()), field),
         1 => {
             fields.remove(position);
         }
         _ => fields[position] = field,
     }
+    fields.join(&b',')
+}
+
+/// The P line with something in the place of its floor that may not stand there.
+fn with_wrong_floor(random: &mut Random, line: &[u8]) -> Vec<u8> {
+    let mut fields: Vec<&[u8]> = line.split(|&byte| byte == b',').collect();
+    fields.truncate(FLOOR_FIELD);
+    fields.push(WRONG_FLOORS[random.below(WRONG_FLOORS.len())].as_bytes());
     fields.join(&b',')
 }
 
@@ -58,8 +78,13 @@ fn with_other_field(random: &mut Random, line: &[u8]) -> Vec<u8> {
 pub fn changed_line(random: &mut Random, line: &[u8]) -> Vec<u8> {
     let mut fields: Vec<Vec<u8>> = line.split(|&byte| byte == b',').map(<[u8]>::to_vec).collect();
     let position = random.between(2, fields.len().saturating_sub(1));
+    let is_floor = line.starts_with(b"P,") && position == FLOOR_FIELD;
     if let Some(field) = fields.get_mut(position) {
-        *field = other_of_kind(random, field).into_bytes();
+        let other = match is_floor {
+            true => any_word(random).word().to_string(),
+            false => other_of_kind(random, field),
+        };
+        *field = other.into_bytes();
     }
     fields.join(&b',')
 }

@@ -162,6 +162,17 @@ pub fn joined_parameters(falling: bool) -> String {
     lines
 }
 
+/// The same in rising order, with the floor AH at all parameters but the last, and this one there.
+pub fn joined_parameters_with_floors(last: &str) -> String {
+    let mut lines = joined_parameters(false);
+    for own in 0..63 {
+        let line = format!(" P,{own},g{own},{own}");
+        let floor = if own < 62 { "AH" } else { last };
+        lines = lines.replacen(&format!("{line} "), &format!("{line},{floor} "), 1);
+    }
+    lines
+}
+
 /// A program with 64 named variables, 63 parameters and 256 rows, each PLAIN and an arrow.
 ///
 /// Row 1 is INT to INT, row 2 takes row 1 to row 1. Parameter 0 has row 1 and parameter 33
@@ -221,6 +232,8 @@ pub fn all() -> Vec<(&'static str, String)> {
         ("towers of arrows of different heights", towers_of_arrows(60, 62)),
         ("parameters joined in rising order", joined_parameters(false)),
         ("parameters joined in falling order", joined_parameters(true)),
+        ("joined parameters with floors", joined_parameters_with_floors("FHE")),
+        ("joined parameters with a floor missed", joined_parameters_with_floors("MH")),
         ("the greatest report", greatest_report()),
     ]
 }

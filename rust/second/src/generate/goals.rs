@@ -110,6 +110,11 @@ impl QualifierPlan {
     }
 }
 
+/// Any of the seven qualifiers.
+pub fn any_word(random: &mut Random) -> Qualifier {
+    Qualifier::ALL[random.below(Qualifier::ALL.len())]
+}
+
 /// Any code of a declared qualifier.
 pub fn any_code(random: &mut Random) -> u8 {
     random.below(usize::from(GREATEST_CODE) + 1) as u8

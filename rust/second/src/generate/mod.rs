@@ -3,6 +3,7 @@
 mod calls;
 mod chains;
 mod damage;
+mod floors;
 mod goals;
 mod open;
 mod order;
@@ -16,7 +17,8 @@ pub mod deep;
 
 pub use calls::{call_list, Call};
 pub use chains::{chain, doubling};
-pub use damage::{any_bytes, changed_line, damaged_line};
+pub use damage::{any_bytes, changed_line, damaged_line, WRONG_FLOORS};
+pub use floors::{program_with_floors, text_with_floors, Floors};
 pub use open::{opened, Opening};
 pub use program::{closed_program, Program};
 pub use random::Random;

@@ -35,7 +35,7 @@ impl Program {
     }
 }
 
-/// A random closed program with so many rows, or fewer where the parameters run out.
+/// A random closed program without floors, with so many rows, or fewer where the parameters run out.
 pub fn closed_program(random: &mut Random, rows: usize) -> Program {
     let rows = rows.clamp(1, Table::TERM_LIMIT);
     let mut builder = Builder::new(random, rows);
@@ -264,7 +264,7 @@ impl<'a> Builder<'a> {
     fn parameter(&mut self, goal: &Goal) -> u16 {
         let type_row = self.type_row(&goal.aim);
         let qualifier = self.qualifier(goal.class);
-        self.params.push(Parameter { qualifier, type_row });
+        self.params.push(Parameter { qualifier, type_row, floor: Qualifier::Plain });
         self.goals.push(goal.clone());
         (self.params.len() - 1) as u16
     }

@@ -40,7 +40,17 @@ pub fn type_line(own: usize, row: &TypeRow) -> String {
 
 /// The line of a parameter.
 pub fn parameter_line(own: usize, parameter: &Parameter) -> String {
-    format!("P,{own},{},{}", code_text(parameter.qualifier), parameter.type_row)
+    let &Parameter { qualifier, type_row, floor } = parameter;
+    let line = format!("P,{own},{},{type_row}", code_text(qualifier));
+    match floor {
+        Qualifier::Plain => line,
+        _ => with_floor(&line, floor),
+    }
+}
+
+/// A parameter's line of four fields with a fifth one.
+pub fn with_floor(line: &str, floor: Qualifier) -> String {
+    format!("{line},{}", floor.word())
 }
 
 /// The line of a term row.

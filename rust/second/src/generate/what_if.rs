@@ -1,48 +1,51 @@
 //! Random questions to a closed program: what if its parameters were declared otherwise, or its last rows were others?
 
-use super::calls::Call;
-use super::goals::any_code;
-use super::program::closed_program;
+use super::calls::{lowered_and_restored, Call};
+use super::floors::program_with_floors;
+use super::goals::{any_code, any_word};
 use super::random::Random;
 use crate::operation::Operation;
 use crate::qualifier::Qualifier;
-use crate::report::LONGEST_REPORT;
+use crate::table::Table;
 
 /// The most rows that one question takes back.
 const MOST_TAKEN_BACK: usize = 12;
-
-/// An infer with a buffer that is long enough.
-const INFER: Call = Call::Infer(LONGEST_REPORT, 0);
 
 /// Calls that build a closed program of up to so many rows and infer, then so many questions, each with an infer at its end.
 ///
 /// All calls but infers are accepted.
 pub fn what_if_list(random: &mut Random, rows: usize, questions: usize) -> Vec<Call> {
-    let program = closed_program(random, rows);
+    let program = program_with_floors(random, rows);
+    // Only its parameters are kept as the calls leave them.
+    let mut table = program.table();
     let lines: Vec<Vec<u8>> = program.lines.into_iter().map(String::into_bytes).collect();
-    let parameters = lines.iter().filter(|line| line.starts_with(b"P")).count();
     let rows: Vec<Vec<u8>> = lines.iter().filter(|line| line.starts_with(b"E")).cloned().collect();
     let mut calls: Vec<Call> = lines.into_iter().map(Call::Add).collect();
     let redeclarations = program.redeclarations.into_iter();
     calls.extend(redeclarations.map(|(parameter, code)| Call::Redeclare(parameter, code)));
-    calls.push(INFER);
+    calls.push(Call::INFER);
     for _ in 0..questions {
-        match random.below(2) {
-            0 if parameters > 0 => calls.push(redeclared(random, parameters)),
-            _ => calls.extend(rebuilt(random, &rows)),
-        }
-        calls.push(INFER);
+        calls.extend(match random.below(5) {
+            0 | 1 if !table.params.is_empty() => vec![redeclared(random, &mut table)],
+            2 => lowered_and_restored(random, &table).unwrap_or_else(|| rebuilt(random, &rows)),
+            _ => rebuilt(random, &rows),
+        });
+        calls.push(Call::INFER);
     }
     calls
 }
 
-/// A redeclaration of one of so many parameters, as a word or as a variable.
-fn redeclared(random: &mut Random, parameters: usize) -> Call {
-    let code = match random.one_in(2) {
-        true => random.below(Qualifier::ALL.len()) as u8,
-        false => any_code(random),
+/// A redeclaration of one of the table's parameters, as a word, as its floor or as any code.
+fn redeclared(random: &mut Random, table: &mut Table) -> Call {
+    let own = random.below(table.params.len());
+    let floor = table.params[own].floor;
+    let code = match random.below(3) {
+        0 => any_word(random).code(),
+        1 if floor != Qualifier::Plain => floor.code(),
+        _ => any_code(random),
     };
-    Call::Redeclare(random.below(parameters) as u64, code.into())
+    table.params[own].qualifier = code;
+    Call::Redeclare(own as u64, code.into())
 }
 
 /// Take-backs of the last rows, followed by adds of the program's own rows or of slightly other ones.
@@ -50,7 +53,7 @@ fn rebuilt(random: &mut Random, rows: &[Vec<u8>]) -> Vec<Call> {
     let count = random.between(1, rows.len().min(MOST_TAKEN_BACK));
     let mut calls = vec![Call::TakeBack; count];
     if random.one_in(2) {
-        calls.push(INFER);
+        calls.push(Call::INFER);
     }
     let others = random.one_in(2);
     for row in &rows[rows.len() - count..] {

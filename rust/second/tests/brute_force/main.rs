@@ -5,15 +5,21 @@ mod tables;
 
 use search::{search, Found, Rules};
 use second::generate::Random;
+use second::qualifier::Qualifier;
+use second::report::LONGEST_REPORT;
 use second::typing::{judge, Shape};
-use second::Table;
-use tables::{tiny_table, Limits};
+use second::{Answer, Table};
+use tables::{closed_table, tiny_table, Limits};
 
 /// How many tables of each kind a test met.
 #[derive(Debug, Default)]
 struct Tally {
+    /// Tables that have a typing.
     accepted: usize,
+    /// Tables that have none, by the numbers 21 to 23.
     refused: [usize; 3],
+    /// Closed tables with a typing and floors that are not all PLAIN, by how many are missed: none, one, several.
+    floors: [usize; 3],
 }
 
 impl Tally {
@@ -22,6 +28,18 @@ impl Tally {
         match number {
             0 => self.accepted += 1,
             _ => self.refused[number as usize - 21] += 1,
+        }
+    }
+
+    /// Asserts that floors were met, that one was missed, and that several were, so often each.
+    fn assert_each_floor(&self, fewest: usize) {
+        assert!(self.floors.iter().all(|&count| count >= fewest), "{self:?}");
+    }
+
+    /// Counts a closed table that has a typing by how many of its floors are missed.
+    fn count_floors(&mut self, table: &Table, missed: usize) {
+        if table.params.iter().any(|parameter| parameter.floor != Qualifier::Plain) {
+            self.floors[missed.min(2)] += 1;
         }
     }
 }
@@ -43,6 +61,33 @@ fn searched_verdict(rows: usize, all: usize, without_bounds: usize, shapes: usiz
         _ => 23,
     };
     (number, all)
+}
+
+/// Asserts what infer answers for a table with this verdict by the typings found; counts the floors of a closed one.
+///
+/// It is 24 exactly where the table is closed and has typings, but none of them meets every floor.
+fn compare_answer(
+    table: &Table,
+    variables: usize,
+    verdict: (u32, usize),
+    found: &Found,
+    tally: &mut Tally,
+) {
+    let expected = match verdict {
+        _ if !table.closed() => (10, 0),
+        (0, _) => {
+            let missed = found.missed_floors(table, variables);
+            tally.count_floors(table, missed.len());
+            if found.meets_every_floor {
+                (0, 0)
+            } else {
+                (24, missed[0])
+            }
+        }
+        refusal => refusal,
+    };
+    let Answer { number, row, .. } = table.infer(&mut [0; LONGEST_REPORT]);
+    assert_eq!((number, row as usize), expected, "in {table:?}");
 }
 
 /// Asserts that the solver's words are the greatest found, and that together they are a typing.
@@ -72,12 +117,15 @@ fn assert_shapes(table: &Table, found: &Found) {
     }
 }
 
+/// Makes a random table within the limits.
+type Make = fn(&mut Random, &Limits) -> Table;
+
 /// Compares random tables without ANY rows, for which the search is complete.
-fn compare_complete(seed: u64, tables: usize, limits: &Limits) -> Tally {
+fn compare_complete(seed: u64, tables: usize, limits: &Limits, make: Make) -> Tally {
     let mut random = Random::seeded(seed);
     let mut tally = Tally::default();
     for _ in 0..tables {
-        let table = tiny_table(&mut random, limits);
+        let table = make(&mut random, limits);
         let all = search(&table, limits.variables, Rules::All, 0);
         let without_bounds = search(&table, limits.variables, Rules::WithoutBounds, 0).most_rows;
         let shapes = rows_with_shapes(&table, 0);
@@ -88,6 +136,7 @@ fn compare_complete(seed: u64, tables: usize, limits: &Limits) -> Tally {
             assert_greatest_words(&table, limits.variables, &all);
             assert_shapes(&table, &all);
         }
+        compare_answer(&table, limits.variables, expected, &all, &mut tally);
     }
     tally
 }
@@ -95,15 +144,31 @@ fn compare_complete(seed: u64, tables: usize, limits: &Limits) -> Tally {
 #[test]
 fn tables_without_unknown_types_agree() {
     let limits = Limits { unknowns: 0, arrows: 9, constants: 9, variables: 3, rows: 8 };
-    let tally = compare_complete(1, 1000, &limits);
+    let tally = compare_complete(1, 1000, &limits, tiny_table);
     assert!(tally.accepted > 200 && tally.refused.iter().all(|&count| count > 40), "{tally:?}");
 }
 
 #[test]
 fn tables_without_arrows_agree() {
     let limits = Limits { unknowns: 0, arrows: 0, constants: 1, variables: 3, rows: 14 };
-    let tally = compare_complete(8, 500, &limits);
+    let tally = compare_complete(8, 500, &limits, tiny_table);
     assert!(tally.accepted > 100 && tally.refused[1] > 40 && tally.refused[2] > 40, "{tally:?}");
+}
+
+#[test]
+fn closed_tables_without_unknown_types_agree() {
+    let limits = Limits { unknowns: 0, arrows: 9, constants: 9, variables: 3, rows: 5 };
+    let tally = compare_complete(9, 2500, &limits, closed_table);
+    assert!(tally.refused.iter().all(|&count| count > 40), "{tally:?}");
+    tally.assert_each_floor(50);
+}
+
+#[test]
+fn closed_tables_without_arrows_agree() {
+    let limits = Limits { unknowns: 0, arrows: 0, constants: 1, variables: 3, rows: 4 };
+    let tally = compare_complete(10, 1000, &limits, closed_table);
+    assert!(tally.refused[1] > 40 && tally.refused[2] > 40, "{tally:?}");
+    tally.assert_each_floor(70);
 }
 
 /// Compares the shapes of random tables; types nest at most as deep as there are arrows.
@@ -143,34 +208,33 @@ fn rows_with_shapes(table: &Table, depth: usize) -> usize {
     search(table, 0, Rules::WithoutQualifiers, depth).most_rows
 }
 
-/// Compares a table of at most three arrows; gives its number if the depth suffices for it.
-fn compare(table: &Table, variables: usize, depth: usize) -> Option<u32> {
+/// Compares a table of at most three arrows and counts it; tells whether the depth suffices for it.
+fn compare(table: &Table, variables: usize, depth: usize, tally: &mut Tally) -> bool {
     // Depth 3 suffices for three arrows; a lower depth that reaches as far suffices too.
     let shapes = rows_with_shapes(table, 3);
     let all = search(table, variables, Rules::All, depth);
     if rows_with_shapes(table, depth) != shapes {
         // A search that misses types still never reaches further than the solver.
         assert!(all.most_rows <= verdict(table).1, "in {table:?}");
-        return None;
+        return false;
     }
     let without_bounds = search(table, variables, Rules::WithoutBounds, depth).most_rows;
     let expected = searched_verdict(table.terms.len(), all.most_rows, without_bounds, shapes);
     assert_eq!(verdict(table), expected, "in {table:?}");
+    tally.count(expected.0);
     if expected.0 == 0 {
         assert_greatest_words(table, variables, &all);
     }
-    Some(expected.0)
+    compare_answer(table, variables, expected, &all, tally);
+    true
 }
 
 /// Compares so many random tables with types of depth 1.
-fn compare_tables(seed: u64, tables: usize, limits: &Limits) -> Tally {
+fn compare_tables(seed: u64, tables: usize, limits: &Limits, make: Make) -> Tally {
     let mut random = Random::seeded(seed);
     let mut tally = Tally::default();
     for _ in 0..tables {
-        let table = tiny_table(&mut random, limits);
-        if let Some(number) = compare(&table, limits.variables, 1) {
-            tally.count(number);
-        }
+        compare(&make(&mut random, limits), limits.variables, 1, &mut tally);
     }
     tally
 }
@@ -181,16 +245,26 @@ fn tables_with_one_unknown_type_agree() {
         3,
         300,
         &Limits { unknowns: 1, arrows: 3, constants: 9, variables: 2, rows: 7 },
+        tiny_table,
     );
     assert!(tally.accepted > 50 && tally.refused.iter().all(|&count| count > 10), "{tally:?}");
+}
+
+#[test]
+fn closed_tables_with_one_unknown_type_agree() {
+    // The LAMs that close a table are arguments of nothing, so types nest no deeper.
+    let limits = Limits { unknowns: 1, arrows: 3, constants: 9, variables: 2, rows: 4 };
+    let tally = compare_tables(11, 500, &limits, closed_table);
+    tally.assert_each_floor(20);
 }
 
 #[test]
 fn tables_with_two_unknown_types_agree() {
     let tally = compare_tables(
         4,
-        40,
+        60,
         &Limits { unknowns: 2, arrows: 3, constants: 9, variables: 1, rows: 7 },
+        tiny_table,
     );
     assert!(tally.accepted > 10 && tally.refused.iter().sum::<usize>() > 10, "{tally:?}");
 }
@@ -205,7 +279,7 @@ fn tables_with_a_deep_unknown_type_agree() {
         // Only tables that need depth 2 are worth the search.
         let shapes = rows_with_shapes(&table, 3);
         if rows_with_shapes(&table, 1) < shapes && rows_with_shapes(&table, 2) == shapes {
-            assert!(compare(&table, 0, 2).is_some());
+            assert!(compare(&table, 0, 2, &mut Tally::default()));
             compared += 1;
         }
     }

@@ -6,7 +6,7 @@
 
 use second::operation::Operation;
 use second::qualifier::Qualifier;
-use second::rows::{QualifiedRow, Term, TypeRow};
+use second::rows::{Parameter, QualifiedRow, Term, TypeRow};
 use second::typing::{judge, Judgement, Shape, Slot};
 use second::Table;
 use std::collections::HashMap;
@@ -110,6 +110,11 @@ impl Check<'_> {
         (self.qualifier(row.qualifier), self.type_rows[usize::from(row.type_row)])
     }
 
+    /// The qualified type of a parameter.
+    fn parameter(&self, parameter: u16) -> QualifiedType {
+        self.declared(self.table.params[usize::from(parameter)].declared())
+    }
+
     /// Gives each type row its type.
     fn take_type_rows(&mut self) {
         let mut unknowns = self.choice.unknowns.iter();
@@ -132,7 +137,7 @@ impl Check<'_> {
         match term {
             Term::Lambda { parameter, body } => {
                 let body = row(body);
-                let parameter = self.declared(self.table.params[usize::from(parameter)]);
+                let parameter = self.parameter(parameter);
                 Some((self.qualifier(0), self.types.arrow(parameter, body)))
             }
             Term::Apply { function, argument } => {
@@ -142,9 +147,7 @@ impl Check<'_> {
             Term::Operate { operation, left, right } => {
                 self.operate(operation, row(left), row(right))
             }
-            Term::Variable { parameter } => {
-                Some(self.declared(self.table.params[usize::from(parameter)]))
-            }
+            Term::Variable { parameter } => Some(self.parameter(parameter)),
             Term::Number { .. } => Some((self.qualifier(0), INT)),
             Term::Encrypted { scheme, .. } => Some((self.qualifier(scheme as u8), INT)),
         }
@@ -185,7 +188,7 @@ fn typed_rows(
             None => break,
         }
     }
-    let params = table.params.iter().map(|&parameter| check.declared(parameter));
+    let params = table.params.iter().map(|parameter| check.declared(parameter.declared()));
     (params.collect(), check.rows)
 }
 
@@ -200,11 +203,26 @@ pub struct Found {
     pub shapes: Vec<(bool, bool)>,
     /// Whether a typing has the solver's words, and its shapes with ANY taken as INT.
     pub has_reported: bool,
+    /// Whether some single typing of the whole table meets every floor.
+    pub meets_every_floor: bool,
+}
+
+/// Tells whether a parameter's floor is at or below a qualifier.
+fn meets(parameter: &Parameter, code: u8) -> bool {
+    AT_OR_BELOW[usize::from(code)][parameter.floor as usize]
 }
 
 impl Found {
     /// Takes a typing of the whole table: the variables' codes, then parameters and rows.
-    fn take(&mut self, variables: &[u8], slots: &[QualifiedType], reported: Option<&Judgement>) {
+    fn take(
+        &mut self,
+        table: &Table,
+        variables: &[u8],
+        slots: &[QualifiedType],
+        reported: Option<&Judgement>,
+    ) {
+        let mut params = table.params.iter().zip(slots);
+        self.meets_every_floor |= params.all(|(parameter, slot)| meets(parameter, slot.0));
         let words = || variables.iter().copied().chain(slots.iter().map(|slot| slot.0));
         self.words.resize(words().count(), vec![]);
         self.shapes.resize(slots.len(), (false, false));
@@ -227,6 +245,12 @@ impl Found {
             judgement.variables.iter().all(same_variable)
                 && judgement.params.iter().chain(&judgement.terms).zip(slots).all(is_same)
         });
+    }
+
+    /// The parameters whose greatest qualifier is not at or above their floor, after so many variables.
+    pub fn missed_floors(&self, table: &Table, variables: usize) -> Vec<usize> {
+        let met = |own: usize| meets(&table.params[own], self.greatest(variables + own));
+        (0..table.params.len()).filter(|&own| !met(own)).collect()
     }
 
     /// The greatest of the qualifiers that a slot has.
@@ -273,7 +297,7 @@ pub fn search(table: &Table, variables: usize, rules: Rules, depth: usize) -> Fo
         found.most_rows = found.most_rows.max(rows.len());
         if rows.len() == table.terms.len() {
             slots.extend(rows);
-            found.take(&choice.variables, &slots, reported.as_ref());
+            found.take(table, &choice.variables, &slots, reported.as_ref());
         }
         if !advance(&mut digits, &limits) {
             return found;

@@ -4,6 +4,7 @@
 #![allow(dead_code)]
 
 pub use second::generate::text_of_lines as text;
+use second::place::inferred;
 use second::{place, Table};
 
 /// Asserts what `place` prints for a program, both given as words separated by white space.
@@ -11,6 +12,13 @@ pub fn assert_prints(program: &str, expected: &str) {
     let printed = String::from_utf8(place(&text(program))).unwrap();
     let expected = String::from_utf8(text(expected)).unwrap();
     assert_eq!(printed, expected, "for the program {program}");
+}
+
+/// Asserts what is printed of an inference, given as words separated by white space.
+pub fn assert_inferred(table: &Table, expected: &str) {
+    let printed = String::from_utf8(inferred(table)).unwrap();
+    let expected = String::from_utf8(text(expected)).unwrap();
+    assert_eq!(printed, expected, "for the table {table:?}");
 }
 
 /// The table after these lines, each of which must be accepted.

@@ -1,0 +1,92 @@
+//! Floors for the parameters of random programs: none, met ones and missed ones.
+
+use super::goals::any_word;
+use super::program::{closed_program, Program};
+use super::random::Random;
+use super::text::with_floor;
+use crate::qualifier::{at_or_below, Qualifier};
+use crate::table::Table;
+use crate::typing::judge;
+
+/// How often a floor is missed in a program, where one can be: once in so many parameters, 0 for never.
+const MISSED: [usize; 6] = [0, 0, 0, 1, 3, 12];
+
+/// A random closed program as [`closed_program`] makes it; two of three have floors.
+pub fn program_with_floors(random: &mut Random, rows: usize) -> Program {
+    let program = closed_program(random, rows);
+    with_floors(random, program)
+}
+
+/// A text whose lines are all accepted and have no floors, with floors in two of three cases.
+pub fn text_with_floors(random: &mut Random, text: &[u8]) -> Vec<u8> {
+    let lines = String::from_utf8_lossy(text).lines().map(str::to_string).collect();
+    with_floors(random, Program { lines, redeclarations: vec![] }).text()
+}
+
+/// The program with floors that suit the words of its parameters, in two of three cases.
+fn with_floors(random: &mut Random, mut program: Program) -> Program {
+    if random.one_in(3) {
+        return program;
+    }
+    let table = program.table();
+    let words: Vec<Qualifier> = match judge(&table) {
+        Ok(judgement) => judgement.params.iter().map(|slot| slot.word).collect(),
+        // Without a typing no floor is looked at, so any will do.
+        Err(_) => table.params.iter().map(|_| any_word(random)).collect(),
+    };
+    let missed = MISSED[random.below(MISSED.len())];
+    let parameter_lines = program.lines.iter_mut().filter(|line| line.starts_with('P'));
+    for (line, word) in parameter_lines.zip(words) {
+        let misses = random.one_in(missed);
+        let floor = floor(random, word, misses);
+        // Four fields mean PLAIN, so it is mostly left out.
+        if floor != Qualifier::Plain || random.one_in(3) {
+            *line = with_floor(line, floor);
+        }
+    }
+    program
+}
+
+/// A floor that a word misses, if that is wanted and there is one; otherwise one that it meets.
+fn floor(random: &mut Random, word: Qualifier, misses: bool) -> Qualifier {
+    let all = Qualifier::ALL.into_iter();
+    let (met, missed): (Vec<_>, Vec<_>) = all.partition(|&floor| at_or_below(floor, word));
+    let candidates = if misses && !missed.is_empty() { missed } else { met };
+    candidates[random.below(candidates.len())]
+}
+
+/// What can be seen of the floors of a closed program.
+#[derive(Clone, Copy, Debug, PartialEq, Eq, PartialOrd, Ord)]
+pub enum Floors {
+    /// Every floor is PLAIN.
+    Plain,
+    /// Some floor is not PLAIN, and the program has no typing.
+    NoTyping,
+    /// Some floor is not PLAIN, and every floor is met.
+    Met,
+    /// One floor is missed.
+    OneMissed,
+    /// Several floors are missed.
+    SeveralMissed,
+}
+
+impl Floors {
+    /// All that can be seen.
+    pub const ALL: [Floors; 5] =
+        [Floors::Plain, Floors::NoTyping, Floors::Met, Floors::OneMissed, Floors::SeveralMissed];
+
+    /// What is seen of the floors of the program that stands in a table.
+    pub fn of(table: &Table) -> Floors {
+        if table.params.iter().all(|parameter| parameter.floor == Qualifier::Plain) {
+            return Floors::Plain;
+        }
+        let Ok(judgement) = judge(table) else {
+            return Floors::NoTyping;
+        };
+        match table.missed_floors(&judgement).count() {
+            0 => Floors::Met,
+            1 => Floors::OneMissed,
+            _ => Floors::SeveralMissed,
+        }
+    }
+}
