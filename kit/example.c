@@ -35,6 +35,8 @@ static const char *words(unsigned number) {
         return "two different schemes would have to be one here. Declare the inputs that meet with one scheme, or with a variable.";
     case PLACEMENT_NO_BOUNDS:
         return "a declared scheme does not support an operation on it. Declare a scheme that supports it, or a variable.";
+    case PLACEMENT_BELOW_FLOOR:
+        return "the greatest scheme for this input is not at or above its floor. Lower the floor, or change what the program does with the input.";
     default:
         return "this program does not know the number. See docs/NUMBERS.md.";
     }
@@ -49,6 +51,8 @@ static void explain(uint32_t result) {
         fprintf(stderr, " at line %u", placement_place(result));
     } else if (placement_names_row(number)) {
         fprintf(stderr, " at row E,%u", placement_place(result));
+    } else if (placement_names_parameter(number)) {
+        fprintf(stderr, " at parameter P,%u", placement_place(result));
     }
     fprintf(stderr, ": %s\n", words(number));
 }

@@ -15,9 +15,9 @@ extern "C" {
 #endif
 
 /* The version of this header and of the archive that belongs to it. CHANGELOG.md lists the versions. */
-#define PLACEMENT_VERSION "1.1.0"
-#define PLACEMENT_VERSION_MAJOR 1
-#define PLACEMENT_VERSION_MINOR 1
+#define PLACEMENT_VERSION "2.0.0"
+#define PLACEMENT_VERSION_MAJOR 2
+#define PLACEMENT_VERSION_MINOR 0
 #define PLACEMENT_VERSION_PATCH 0
 
 /* A report buffer has at least this many bytes, and no report is longer. */
@@ -27,14 +27,14 @@ extern "C" {
 #define PLACEMENT_TEXT_LENGTH 25025
 
 /*
- * Stack to have free for a call, in bytes. Measured for placement_report: 30,000 for ordinary tables, 59,000 for the deepest types found; for
- * placement_session on the same lines: 49,000 and 78,000. Nothing proves a bound; kit/test measures both anew and holds them to this number.
+ * Stack to have free for a call, in bytes. Measured for placement_report: 33,000 for ordinary tables, 62,000 for the deepest types found; for
+ * placement_session on the same lines: 52,000 and 81,000. Nothing proves a bound; kit/test measures both anew and holds them to this number.
  */
 #define PLACEMENT_STACK_LENGTH 131072
 
 /*
- * What placement_report returns: from here on this number plus the report's length; below it 1,000 times a refusal's number plus its line
- * or row.
+ * What placement_report returns: from here on this number plus the report's length; below it 1,000 times a refusal's number plus its line,
+ * row or parameter.
  */
 #define PLACEMENT_ACCEPTED 100000u
 
@@ -56,6 +56,11 @@ enum placement_refusal {
     PLACEMENT_NO_SHAPES = 21,        /* no typing, even when qualifiers are ignored */
     PLACEMENT_NO_QUALIFIERS = 22,    /* no typing, even when "at or below" is dropped */
     PLACEMENT_NO_BOUNDS = 23,        /* no typing */
+    /*
+     * With the parameter's number, counted from 0: the lowest whose scheme is not at or above its floor. The program has typings, but none that
+     * meets every floor. Lower the floor, or change what the program does with that input.
+     */
+    PLACEMENT_BELOW_FLOOR = 24,      /* a parameter's greatest scheme is not at or above its floor */
     /* In the answers to a script only. */
     PLACEMENT_NO_TERM_ROW = 9,       /* take-back with no term row */
     PLACEMENT_NO_CODE = 12           /* redeclare with a code above 70 */
@@ -86,9 +91,10 @@ uint32_t placement_report(const uint8_t *text, size_t text_length, uint8_t *repo
  *
  *   add LINE           its number: 0, or a refusal's. LINE is a line of a table, any bytes
  *   redeclare P CODE   its number. Gives parameter P another qualifier: codes 0 to 6 are PLAIN, FHE, OP, DET, MH, AH and RAND, and
- *                      7 to 70 are g0 to g63. Both numbers are decimal, at most 4294967295 and without leading zeros
+ *                      7 to 70 are g0 to g63. Both numbers are decimal, at most 4294967295 and without leading zeros. The
+ *                      parameter's floor stays
  *   take-back          its number. Drops the last term row
- *   infer              the report, or NO,number,row
+ *   infer              the report, or NO,number,row; for 24 NO,24,parameter
  *   any other line     ? and nothing is changed
  *
  * Returns the length of all answers, at most SIZE_MAX. Where the buffer is long enough, they stand at its front, without a 0 at their end,
@@ -118,7 +124,7 @@ static inline unsigned placement_number(uint32_t result) {
     return placement_accepted(result) ? 0 : (unsigned)(result / 1000);
 }
 
-/* The refusal's line or row; 0 for a report. */
+/* The refusal's line, row or parameter; 0 for a report. */
 static inline unsigned placement_place(uint32_t result) {
     return placement_accepted(result) ? 0 : (unsigned)(result % 1000);
 }
@@ -131,6 +137,11 @@ static inline int placement_names_line(unsigned number) {
 /* Whether the place of a refusal with this number is a term row. */
 static inline int placement_names_row(unsigned number) {
     return number >= PLACEMENT_NO_SHAPES && number <= PLACEMENT_NO_BOUNDS;
+}
+
+/* Whether the place of a refusal with this number is a parameter. */
+static inline int placement_names_parameter(unsigned number) {
+    return number == PLACEMENT_BELOW_FLOOR;
 }
 
 #ifdef __cplusplus

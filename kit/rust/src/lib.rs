@@ -68,8 +68,8 @@ pub fn report(text: &[u8]) -> Result<Report, Refusal> {
 
 /// Answers the commands of a script in turn, from a fresh table on: `add LINE`, `redeclare P CODE`, `take-back` and `infer`, one a line.
 ///
-/// The first three are answered by their number, 0 or a refusal's, an infer by the report or `NO,number,row`, and any other line by `?`; each
-/// answer ends in a line feed. kit/placement.h says more of each.
+/// The first three are answered by their number, 0 or a refusal's, an infer by the report or `NO,number,row` (`NO,24,parameter`), and any other
+/// line by `?`; each answer ends in a line feed. kit/placement.h says more of each.
 ///
 /// The script is run twice, once for the length of all answers. Threads may call it at once; it takes as much stack as [`report`].
 pub fn session(script: &[u8]) -> Vec<u8> {

@@ -9,19 +9,22 @@ const ACCEPTED: u32 = 100_000;
 /// Why a table has no report; docs/NUMBERS.md has an example and a fix for each number.
 #[derive(Clone, Copy, Debug, PartialEq, Eq)]
 pub struct Refusal {
-    /// 1 to 8 for a line, 10 or 11 for the whole, 21 to 23 for a row.
+    /// 1 to 8 for a line, 10 or 11 for the whole, 21 to 23 for a row, 24 for a parameter.
     pub number: u32,
     /// Where the refusal stands.
     pub place: Place,
 }
 
-/// Where a refusal stands.
+/// Where a refusal stands. Later versions may have more places.
 #[derive(Clone, Copy, Debug, PartialEq, Eq)]
+#[non_exhaustive]
 pub enum Place {
     /// A line of the text, counted from 1.
     Line(u32),
     /// A term row, counted from 0: the least one that leaves no typing.
     Row(u32),
+    /// A parameter, counted from 0: the lowest whose greatest scheme is not at or above its floor.
+    Parameter(u32),
     /// The table as a whole, or the buffer.
     Whole,
 }
@@ -35,6 +38,7 @@ pub fn taken_apart(answer: u32) -> Result<usize, Refusal> {
     let place = match number {
         1..=8 => Place::Line(place),
         21..=23 => Place::Row(place),
+        24 => Place::Parameter(place),
         _ => Place::Whole,
     };
     Err(Refusal { number, place })
@@ -57,6 +61,10 @@ impl Refusal {
             21 => "numbers and functions are mixed up, or a type would contain itself",
             22 => "two different schemes would have to be one",
             23 => "a declared scheme does not support an operation on it",
+            24 => {
+                "the greatest scheme for this input is not at or above its floor: \
+                 lower the floor, or change what the program does with the input"
+            }
             _ => "unknown number",
         }
     }
@@ -68,6 +76,7 @@ impl fmt::Display for Refusal {
         match self.place {
             Place::Line(line) => write!(f, " at line {line}")?,
             Place::Row(row) => write!(f, " at row E,{row}")?,
+            Place::Parameter(parameter) => write!(f, " at parameter P,{parameter}")?,
             Place::Whole => {}
         }
         write!(f, ": {}", self.meaning())

@@ -58,6 +58,19 @@ fn a_refused_row_is_named_from_0() {
 }
 
 #[test]
+fn a_parameter_below_its_floor_is_named_from_0() {
+    let found = refusal(include_bytes!(
+        "../../../examples/refused-24-register-below-floor.table"
+    ));
+    assert_eq!((found.number, found.place), (24, Place::Parameter(0)));
+    assert_eq!(
+        found.to_string(),
+        "refused with 24 at parameter P,0: the greatest scheme for this input is not at or above its floor: \
+         lower the floor, or change what the program does with the input"
+    );
+}
+
+#[test]
 fn an_empty_text_is_not_closed() {
     let found = refusal(b"");
     assert_eq!((found.number, found.place), (10, Place::Whole));
@@ -124,11 +137,13 @@ fn answers_are_taken_apart() {
         assert_eq!(taken_apart(answer), refused(number, Place::Row(0)));
         assert_eq!(taken_apart(answer + 255), refused(number, Place::Row(255)));
     }
+    assert_eq!(taken_apart(24_000), refused(24, Place::Parameter(0)));
+    assert_eq!(taken_apart(24_063), refused(24, Place::Parameter(63)));
 }
 
 #[test]
 fn every_number_of_the_entry_has_words() {
-    for number in (1..=8).chain([10, 11]).chain(21..=23) {
+    for number in (1..=8).chain([10, 11]).chain(21..=24) {
         let found = taken_apart(number * 1_000).unwrap_err();
         assert_ne!(found.meaning(), "unknown number", "for {number}");
     }
@@ -158,13 +173,28 @@ fn a_script_has_its_answers() {
     assert_eq!(session(&ended), ANSWERS);
 }
 
+/// A difference between answers is shown with its bytes escaped.
+fn assert_answered(script: &[u8], answers: &[u8]) {
+    let found = session(script);
+    assert_eq!(
+        found.escape_ascii().to_string(),
+        answers.escape_ascii().to_string()
+    );
+}
+
 #[test]
 fn a_script_asks_what_if() {
-    let script = include_bytes!("../../../examples/what-if.script");
-    let answers = include_bytes!("../../../examples/what-if.answers");
-    assert_eq!(
-        session(script).escape_ascii().to_string(),
-        answers.escape_ascii().to_string()
+    assert_answered(
+        include_bytes!("../../../examples/what-if.script"),
+        include_bytes!("../../../examples/what-if.answers"),
+    );
+}
+
+#[test]
+fn a_redeclare_leaves_the_floor() {
+    assert_answered(
+        include_bytes!("../../../examples/floor.script"),
+        include_bytes!("../../../examples/floor.answers"),
     );
 }
 
