@@ -35,7 +35,7 @@ use Rattle.demands.specs.Replacements.{callsOf}
 use Rattle.demands.specs.Scripts.{OneSession, commandFor, Spelled, unspelledNumbers, scriptOf, answersOf, AllAlike}
 use Rattle.demands.proofs.Exactly.{refused-exactly, answers-zero}
 use Rattle.demands.proofs.Standing.{session-standing}
-use Rattle.demands.proofs.Staying.{floor-stays}
+use Rattle.demands.proofs.FloorsStay.{floor-stays}
 use Rattle.demands.proofs.Completion.{reports-typing, answered-reports}
 use Rattle.demands.proofs.Floors.{accepted-greatest, missed-greatest, above-floors, accepted-some, missed-every}
 use Rattle.demands.proofs.LeftOut.{unspelled-refused}

@@ -2,7 +2,7 @@ pub mod Checks
 pub mod Members
 pub mod Refusals
 pub mod Standing
-pub mod Staying
+pub mod FloorsStay
 pub mod Completion
 pub mod Floors
 pub mod Exactly

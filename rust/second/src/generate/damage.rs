@@ -72,7 +72,7 @@ fn with_wrong_floor(random: &mut Random, line: &[u8]) -> Vec<u8> {
     fields.join(&b',')
 }
 
-/// The line with one field replaced by another of its kind, so that it stays well formed.
+/// The line with one field replaced by another of its kind; it stays well formed, unless an ENC's scheme becomes PLAIN or a variable.
 ///
 /// The own number stays, as a wrong one hides all other refusals.
 pub fn changed_line(random: &mut Random, line: &[u8]) -> Vec<u8> {
