@@ -333,7 +333,7 @@ fn tables_of_each_size_are_answered_alike() {
     floors.assert_each([Floors::Plain, Floors::NoTyping, Floors::Met], TABLES / 8);
     assert_eq!(tally.answers.0.keys().copied().collect::<Vec<u32>>(), VERDICTS);
     tally.answers.assert_each(VERDICTS, TABLES / 20);
-    tally.assert_each_word(TABLES / 5_000);
+    tally.assert_each_word(TABLES / 3_000);
     tally.finish(&format!("{TABLES} closed tables"));
 }
 
