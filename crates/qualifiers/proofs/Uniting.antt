@@ -243,12 +243,34 @@ united-below found u =
       stays = λ m x-below y-below. u .stays m x-below (omega (arith, found .low));
     }
 
--- A new node, which nothing bounds, was put under the root above a smaller one.
-pub new-alike : {p p′ b : List ℕ} {x y : ℕ} → Classes p b → 7 ≤ x → x < 327 → up p x ≡ x → boundAt b x ≡ 6 → y < x → Hung p p′ x y → United p b p′ b x y true
-new-alike {p} {b = b} {x} {y} k free node root unbound less hung =
-    let roots : Roots p (hung .root) x =
-    record { less = omega (arith, hung .found .low); node = node; low-root = hung .found .root; high-root = root } in
-    subst (λ (l : List ℕ). United p b l b x y true) (sym (hung .under)) (united-below (hung .found) (united-turned (joined-rand k (hung .root) x roots free unbound)))
+-- A root that is put under itself stays a class of its own.
+united-self : {p p′ b : List ℕ} {x : ℕ} → Classes p b → up p x ≡ x → Hung p p′ x x → United p b p′ b x x true
+united-self {p} {b = b} {x} k root hung =
+    subst (λ (l : List ℕ). United p b l b x x true)
+    (sym (hung .under ∙ ap (set p x) (root-reaches root (hung .found .reached) ∙ sym root) ∙ set-getD p x 0))
+    (record {
+      classes = k;
+      into = λ _ v linked _. linked;
+      outof = λ _ v linked. (linked, refl);
+      bounds-into = λ _ v linked bounded. bounded;
+      bounds-outof = λ _ v linked bounded. bounded;
+      clash = λ e. absurd (true≢false e);
+      stays = λ m _ _ untouched. untouched;
+    })
+
+module _ {p p′ b : List ℕ} {x y : ℕ} (k : Classes p b) (free : 7 ≤ x) (node : x < 327) (root : up p x ≡ x) (unbound : boundAt b x ≡ 6) where
+  new-above : y < x → Hung p p′ x y → United p b p′ b x y true
+  new-above less hung =
+      let roots : Roots p (hung .root) x =
+      record { less = omega (arith, hung .found .low); node = node; low-root = hung .found .root; high-root = root } in
+      subst (λ (l : List ℕ). United p b l b x y true) (sym (hung .under)) (united-below (hung .found) (united-turned (joined-rand k (hung .root) x roots free unbound)))
+
+  -- A new node, which nothing bounds, was put under the root above a smaller one or above itself.
+  pub new-alike : y ≤ x → Hung p p′ x y → United p b p′ b x y true
+  new-alike low hung =
+      by-eq y x
+      (λ e. subst (λ (z : ℕ). United p b p′ b x z true) (sym e) (united-self k root (subst (Hung p p′ x) e hung)))
+      (λ n. new-above (omega arith) hung)
 
 -- Fewer nodes are untouched.
 pub untouched-more : {p b : List ℕ} {m n : ℕ} → m ≤ n → Untouched m p b → Untouched n p b

@@ -93,8 +93,7 @@ module _ (m : Machine) (wf : WellFormed m) (word : ℕ → ℕ) (Fits : ℕ → 
     )
     row-same i (Var p) st h =
         (cc (h .0, row-qualifier-node word s i, param-qualifier p st), cc (h .1, row-type-node s i, param-type p st))
-    row-same i (Num n) st h =
-        (cc (h .0, row-qualifier-node word s i, word-node word s 0 (omega arith)), cc (h .1, row-type-node s i))
+    row-same i (Num n) st h = cc (h, row-type-node s i)
     row-same i (Enc e n) st h =
         (cc (h .0, row-qualifier-node word s i, word-node word s e (omega (arith, st .1))), cc (h .1, row-type-node s i))
 
@@ -132,7 +131,7 @@ module _ (m : Machine) (wf : WellFormed m) (word : ℕ → ℕ) (Fits : ℕ → 
     row-worded i (App f a) is below in-list st h = h
     row-worded i (Op o l r) is below in-list st h = (h .0, h .1, h .2, fits i below in-list o l r is, cc (h .4, words 0 (omega arith)), h .5)
     row-worded i (Var p) is below in-list st h = h
-    row-worded i (Num n) is below in-list st h = (h .0 ∙ words 0 (omega arith), h .1)
+    row-worded i (Num n) is below in-list st h = h
     row-worded i (Enc e n) is below in-list st h = (h .0 ∙ words e (omega (arith, st .1)), h .1)
 
     pub typing-of-meets : Typing worded m k (assignment m t v)

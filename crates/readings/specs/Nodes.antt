@@ -62,7 +62,7 @@ RowHolds i (Op o l r) q ty t v =
     × (v (i + 71) ≡ cond (keeps o) (v (l + 71)) (v 0))
     × (t (i + 64) ≡ int)
 RowHolds i (Var p) q ty t v = (v (i + 71) ≡ v q) × (t (i + 64) ≡ t ty)
-RowHolds i (Num n) q ty t v = (v (i + 71) ≡ v 0) × (t (i + 64) ≡ int)
+RowHolds i (Num n) q ty t v = t (i + 64) ≡ int
 RowHolds i (Enc s n) q ty t v = (v (i + 71) ≡ v s) × (t (i + 64) ≡ int)
 
 -- The parameter that a row names, if it names one.

@@ -163,7 +163,7 @@ module _ {i l r : ℕ} {u k p b : List ℕ} (o : ℕ) (stands : (i < 256) × (l 
                 new-result : United p₁ b₁ p₂ b₁ (i + 71) result true
                 new-result =
                     new-alike (united .classes) (omega arith) (omega arith) (untouched-first .own (i + 71) (omega arith) (omega arith)) (untouched-first .unbound (i + 71) (omega arith) (omega arith))
-                    result-below hung
+                    (omega (arith, result-below)) hung
 
                 equated : Equated p b p₂ b₁ Alikes
                 equated =

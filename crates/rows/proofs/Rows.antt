@@ -3,7 +3,7 @@ use Prim.Native.Nat.{ℕ, _+_, _-_, _<_, _≤_}
 use native.Mathlib.Omega.{arith}
 use mathlib.Core.Bool.{true}
 use mathlib.Core.List.{List}
-use mathlib.Core.Path.{_≡_, sym, subst, _∙_}
+use mathlib.Core.Path.{_≡_, refl, sym, subst, _∙_}
 use lib.ListN.{set}
 use Rattle.model.specs.Typing.{Ty, int, arrow}
 use Rattle.forest.specs.Forest.{Hung}
@@ -39,11 +39,11 @@ Fine i q kids u k p b u′ k′ p′ b′ F =
     Extended kids u k p b u′ k′ p′ b′ (λ t v. (v (i + 71) ≡ v q) × F t v) (λ v. Unit {0}) × Ready (i + 1) kids u′ k′ p′ b′
 
 module _ {i : ℕ} {kids u k p b : List ℕ} (in-list : i < 256) (types : TypeClasses u k) (classes : Classes p b) (ready : Ready i kids u k p b) where
-  pub new-qualifier : {p′ : List ℕ} {q : ℕ} → q < i + 71 → Hung p p′ (i + 71) q → United p b p′ b (i + 71) q true
+  pub new-qualifier : {p′ : List ℕ} {q : ℕ} → q ≤ i + 71 → Hung p p′ (i + 71) q → United p b p′ b (i + 71) q true
   new-qualifier low hung =
       new-alike classes (omega arith) (omega arith) (ready .qualifiers .own (i + 71) (omega arith) (omega arith)) (ready .qualifiers .unbound (i + 71) (omega arith) (omega arith)) low hung
 
-  row-fine : {u′ k′ p′ : List ℕ} {q : ℕ} {F : (ℕ → Ty ℕ) → (ℕ → ℕ) → Type 0} → q < i + 71 → Hung p p′ (i + 71) q → Reduced kids u k u′ k′ F Always →
+  row-fine : {u′ k′ p′ : List ℕ} {q : ℕ} {F : (ℕ → Ty ℕ) → (ℕ → ℕ) → Type 0} → q ≤ i + 71 → Hung p p′ (i + 71) q → Reduced kids u k u′ k′ F Always →
       Unused (i + 1 + 64) u′ k′ kids → Fine i q kids u k p b u′ k′ p′ b F
   row-fine low hung reduced unused =
       let united = new-qualifier low hung in (
@@ -62,14 +62,19 @@ module _ {i : ℕ} {kids u k p b : List ℕ} (in-list : i < 256) (types : TypeCl
   next : Unused (i + 1 + 64) u k kids
   next = unused-more (ready .types) (omega arith)
 
-  pub row-int : {k′ p′ : List ℕ} {q : ℕ} → q < i + 71 → Known i q 1 k p k′ p′ → Fine i q kids u k p b u k′ p′ b (λ t v. t (i + 64) ≡ int)
+  pub row-int : {k′ p′ : List ℕ} {q : ℕ} → q ≤ i + 71 → Known i q 1 k p k′ p′ → Fine i q kids u k p b u k′ p′ b (λ t v. t (i + 64) ≡ int)
   row-int low known =
       rw (known .kind)
       (row-fine low (known .qualifier)
       (new-int types (omega arith) (ready .types .own own (omega arith) (omega arith)) (ready .types .unknown own (omega arith) (omega arith)))
       (unused-kind next own 1 (omega arith) (omega arith) (types .size) (λ two. absurd (omega arith))))
 
-  pub row-same : {u′ p′ : List ℕ} {q ty : ℕ} → q < i + 71 → ty < 64 → Hung u u′ (i + 64) ty → Hung p p′ (i + 71) q →
+  -- A row under its own node asks nothing of its qualifier.
+  pub row-literal : {k′ p′ : List ℕ} → Known i (i + 71) 1 k p k′ p′ →
+      Extended kids u k p b u k′ p′ b (λ t v. t (i + 64) ≡ int) (λ v. Unit {0}) × Ready (i + 1) kids u k′ p′ b
+  row-literal known = let fine = row-int (omega arith) known in (extended-as (λ t v e. (refl, e)) (λ t v e. e .1) (fine .0), fine .1)
+
+  pub row-same : {u′ p′ : List ℕ} {q ty : ℕ} → q ≤ i + 71 → ty < 64 → Hung u u′ (i + 64) ty → Hung p p′ (i + 71) q →
       Fine i q kids u k p b u′ k p′ b (λ t v. t (i + 64) ≡ t ty)
   row-same low small above hung =
       row-fine low hung

@@ -253,8 +253,9 @@ pub fn step(
             forest::put_under_root(parent, i + 71, qualifiers[p as usize] as usize);
             Verdict::Fine
         }
+        // Under its own node a literal's qualifier is a class of its own.
         Term::Num(_) => {
-            known_row(parent, kind, i, 0, 1);
+            known_row(parent, kind, i, i + 71, 1);
             Verdict::Fine
         }
         Term::Enc(s, _) => {

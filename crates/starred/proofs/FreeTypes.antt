@@ -1,7 +1,7 @@
 -- Free types: every qualifier is at or below RAND, and a type that no rule fixes is ANY.
 use mathlib.Core.List.{[], _∷_}
 use mathlib.Core.Path.{refl}
-use Rattle.scheme.specs.Qualifier.{Qualifier, plain, rand}
+use Rattle.scheme.specs.Qualifier.{Qualifier, rand}
 use Rattle.model.specs.Machine.{Machine}
 use Rattle.model.specs.Typing.{Ty, int, arrow}
 use Rattle.model.specs.declared.Term.the-variants.{Lam, App, Var, Num}
@@ -10,9 +10,9 @@ use Rattle.starred.proofs.Machines.{oneParameter}
 use Rattle.starred.proofs.Bounds.{plain-below-plain, below-rand}
 use Rattle.starred.proofs.Printed.{AllWithin, loadOf, reportOf, accepted-prints}
 
--- An arrow from a NUM to a RAND of the type.
+-- An arrow from a RAND of type INT to a RAND of the type.
 abbrev rand-of : Ty Qualifier → Ty Qualifier
-rand-of t = arrow plain int rand t
+rand-of t = arrow rand int rand t
 
 abbrev body-x-machine : Machine
 body-x-machine = oneParameter 7 (Var 0 ∷ Lam 0 0 ∷ [])
@@ -32,7 +32,7 @@ x-applied-to-number-machine = oneParameter 7 (Var 0 ∷ Num 3 ∷ App 0 1 ∷ La
 x-applied-to-number-within : AllWithin x-applied-to-number-machine rand (rand-of int) (rand-of (rand-of int))
 x-applied-to-number-within s e =
     let x = below-rand (s .variable 0) in
-    (cc, cc, cc (plain-below-plain, below-rand (s .row 2 .qualifier)))
+    (cc, cc, cc (plain-below-plain, below-rand (s .row 1 .qualifier), below-rand (s .row 2 .qualifier)))
 
 pub x-applied-to-number-prints : PrintsOutput x-applied-to-number
 unfolding loadOf reportOf

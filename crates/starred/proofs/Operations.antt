@@ -2,7 +2,7 @@
 use mathlib.Core.Bool.{true}
 use mathlib.Core.List.{[], _∷_}
 use mathlib.Core.Path.{_≡_, refl}
-use Rattle.scheme.specs.Qualifier.{plain, fhe, op, det, ah, code}
+use Rattle.scheme.specs.Qualifier.{fhe, op, det, ah, code}
 use Rattle.scheme.specs.Order.{atOrBelow}
 use Rattle.scheme.specs.Operation.{highestOf}
 use Rattle.model.specs.Machine.{Machine}
@@ -64,13 +64,13 @@ x-less-than-x-prints = accepted-prints x-less-than-x x-less-than-x-machine refl 
 abbrev x-plus-number-machine : Machine
 x-plus-number-machine = oneParameter 7 (Var 0 ∷ Num 7 ∷ Op 0 0 1 ∷ Lam 0 2 ∷ [])
 
-x-plus-number-within : AllWithin x-plus-number-machine plain int int
+x-plus-number-within : AllWithin x-plus-number-machine ah int int
 unfolding highestOf
-x-plus-number-within s e = (cc plain-below-plain, cc plain-below-plain, cc plain-below-plain)
+x-plus-number-within s e = (cc, cc, cc plain-below-plain)
 
 pub x-plus-number-prints : PrintsOutput x-plus-number
 unfolding loadOf reportOf atOrBelow highestOf
-x-plus-number-prints = accepted-prints x-plus-number x-plus-number-machine refl refl refl plain int int (search depth 30) (search depth 30) x-plus-number-within refl
+x-plus-number-prints = accepted-prints x-plus-number x-plus-number-machine refl refl refl ah int int (search depth 30) (search depth 30) x-plus-number-within refl
 
 abbrev sum-of-comparisons-machine : Machine
 sum-of-comparisons-machine = twoParameters 7 8 (Var 0 ∷ Var 1 ∷ Op 3 0 1 ∷ Var 0 ∷ Var 1 ∷ Op 3 3 4 ∷ Op 0 2 5 ∷ Lam 1 6 ∷ Lam 0 7 ∷ [])

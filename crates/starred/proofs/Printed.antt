@@ -33,7 +33,7 @@ unfoldable pub loadOf : List String → Load
 unfolding loadFrom added lineOf typeLine leafLine termLine intLine anyLine arrowLine paramLine lamLine appLine opLine varLine numLine encLine given choose exactly numberOf wordOf qualifierOf floor schemeOf operationOf entered settled firstFailing typeRefusal paramRefusal termRefusal
 loadOf program = load (textOf program)
 
--- The report is read from two typings with one qualifier for all variables: one type for all type rows takes ANY as INT, the other as an arrow.
+-- The report is read from two typings with one qualifier for all variables and literals: one type for all type rows takes ANY as INT, the other as an arrow.
 module _ (m : Machine) (q : Qualifier) (t t′ : Ty Qualifier) where
   abbrev first : Assignment Qualifier
   first = uniform (whole six) m q t

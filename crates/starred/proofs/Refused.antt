@@ -29,7 +29,7 @@ cause-number (bounds some) e = omega arith
 pub refusal-number : {m : Machine} {number k : ℕ} → Refusal six m number k → ¬ (number ≡ 0)
 refusal-number refusal = cause-number (refusal .cause)
 
--- The first k rows have the typing with PLAIN for all variables and INT for all type rows.
+-- The first k rows have the typing with PLAIN for all variables and literals and INT for all type rows.
 abbrev pub Plainly : (R : Rules) → Machine → ℕ → Type 0
 Plainly R m k = Equations R m k (uniform R m (R .word 0) int)
 

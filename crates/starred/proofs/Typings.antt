@@ -1,4 +1,4 @@
--- Typings of a program that is written out: what they ask, row by row, and the one that its variables and type rows determine.
+-- Typings of a program that is written out: what they ask, row by row, and the one that its variables, literals and type rows determine.
 use Prim.Native.Nat.{ℕ, zero, suc, _≤_, _<_}
 use native.Mathlib.Nat.{le-of-suc-le-suc, not-suc-le-zero}
 use native.Mathlib.Omega.{arith}
@@ -49,8 +49,8 @@ module _ (R : Rules) (m : Machine) where
       at-below k (λ i. RowMeets R s (termAt m i) (s .row i)) (λ i below. t .rows-meet i below (omega arith)),
     )
 
-  -- The variables and the type rows determine the rest: a row's qualified type follows from its parameter's and from the rows below it.
-  module _ (variable : ℕ → R .Q) (type : ℕ → Ty (R .Q)) where
+  -- The variables, the literals and the type rows determine the rest: a row's qualified type follows from its parameter's and from the rows below it.
+  module _ (variable : ℕ → R .Q) (literal : R .Q) (type : ℕ → Ty (R .Q)) where
     abbrev plainInt : Qualified (R .Q)
     plainInt = record { qualifier = R .word 0; type = int }
 
@@ -73,7 +73,7 @@ module _ (R : Rules) (m : Machine) where
     rowOf row (App f a) = resultOf (row f .type)
     rowOf row (Op o l r) = record { qualifier = resultQualifier R o (row l .qualifier); type = int }
     rowOf row (Var p) = declared (paramAt m p)
-    rowOf row (Num n) = plainInt
+    rowOf row (Num n) = record { qualifier = literal; type = int }
     rowOf row (Enc e n) = record { qualifier = R .word e; type = int }
 
     -- The rows from the first on, where those below are known.
@@ -90,6 +90,6 @@ module _ (R : Rules) (m : Machine) where
           row = λ i. getD (rowsOf [] (m .terms)) i plainInt;
         }
 
-  -- One qualifier for all variables, and one type for all type rows.
+  -- One qualifier for all variables and literals, and one type for all type rows.
   abbrev pub uniform : R .Q → Ty (R .Q) → Assignment (R .Q)
-  uniform q t = determined (λ v. q) (λ row. t)
+  uniform q t = determined (λ v. q) q (λ row. t)

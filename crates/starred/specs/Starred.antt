@@ -1,5 +1,5 @@
 -- The starred programs as one list, each with what `place` prints of it.
--- Document 01, "Programs to try": "Starred ones (and A) are proved."
+-- Document 01, "Programs to try": "Starred ones (and A) are proved."; document 02, b).
 use Prim.Native.Nat.{ℕ}
 use Prim.Native.String.{String}
 use mathlib.Core.List.{List, [], _∷_, _++_}
@@ -70,12 +70,12 @@ x-less-than-x =
       output = "OK,1,4" ∷ "G,0,OP" ∷ "P,0,OP,INT" ∷ "E,0,OP,INT" ∷ "E,1,OP,INT" ∷ "E,2,PLAIN,INT" ∷ "E,3,PLAIN,ARROW" ∷ [];
     }
 
--- "* x + NUM: x PLAIN."
+-- "Starred case x + NUM becomes x AH" (document 02, b): the NUM is AH as well, and the output is that of x + x.
 abbrev pub x-plus-number : Example
 x-plus-number =
     record {
       program = "T,0,ANY" ∷ "P,0,g0,0" ∷ "E,0,VAR,0" ∷ "E,1,NUM,7" ∷ "E,2,OP,ADD,0,1" ∷ "E,3,LAM,0,2" ∷ [];
-      output = "OK,1,4" ∷ "G,0,PLAIN" ∷ "P,0,PLAIN,INT" ∷ "E,0,PLAIN,INT" ∷ "E,1,PLAIN,INT" ∷ "E,2,PLAIN,INT" ∷ "E,3,PLAIN,ARROW" ∷ [];
+      output = program-A .output;
     }
 
 -- "* body x: RAND, ANY."
@@ -120,7 +120,7 @@ x-applied-to-x =
       output = "NO,21,2" ∷ [];
     }
 
--- "* NUM applied to NUM: 21."
+-- "* NUM applied to NUM: 21." It "remains 21" (document 02, b).
 abbrev pub number-applied-to-number : Example
 number-applied-to-number =
     record {
@@ -165,12 +165,12 @@ sum-of-comparisons =
           ∷ [];
     }
 
--- "* x applied to NUM: x RAND, ARROW."
+-- "* x applied to NUM: x RAND, ARROW." The NUM, which nothing bounds, is RAND as well.
 abbrev pub x-applied-to-number : Example
 x-applied-to-number =
     record {
       program = "T,0,ANY" ∷ "P,0,g0,0" ∷ "E,0,VAR,0" ∷ "E,1,NUM,3" ∷ "E,2,APP,0,1" ∷ "E,3,LAM,0,2" ∷ [];
-      output = "OK,1,4" ∷ "G,0,RAND" ∷ "P,0,RAND,ARROW" ∷ "E,0,RAND,ARROW" ∷ "E,1,PLAIN,INT" ∷ "E,2,RAND,ANY" ∷ "E,3,PLAIN,ARROW" ∷ [];
+      output = "OK,1,4" ∷ "G,0,RAND" ∷ "P,0,RAND,ARROW" ∷ "E,0,RAND,ARROW" ∷ "E,1,RAND,INT" ∷ "E,2,RAND,ANY" ∷ "E,3,PLAIN,ARROW" ∷ [];
     }
 
 -- "The starred cases form one list, with one theorem over it."

@@ -1,6 +1,6 @@
 -- `rows::step`: each kind of row by its own law.
 use native.Mathlib.Omega.{arith}
-use Rattle.rows.proofs.Rows.{row-int, row-same, row-arrow}
+use Rattle.rows.proofs.Rows.{row-int, row-literal, row-same, row-arrow}
 use borrow.Author.Needs.{needs}
 use Rattle.rows.proofs.step.Statement.{statement}
 use Rattle.rows.proofs.step.Tie as tie
@@ -113,6 +113,9 @@ put-under-root-requires-2 c κs =
 enum-told-2 : tie.Need-enum-told-2
 enum-told-2 c = search needs
 
+add-known-row-2 : tie.Need-add-known-row-2
+add-known-row-2 c = search needs
+
 known-row-requires-2 : tie.Need-known-row-requires-2
 known-row-requires-2 c κs = search needs
 
@@ -154,7 +157,7 @@ returns-5 : tie.Need-returns-5
 returns-5 c =
     let a = c .before .before .before .before .before in
     let row = a .pre .1 .1 .1 .0 in
-    rw (c .before .before .before .enum-told2 .given .1) (row-int (row .0 .in-list) (a .pre .0) (a .pre .1 .1 .0) (a .pre .1 .1 .1 .1) (omega arith) (c .known-row2 .ensures))
+    rw (c .before .before .before .enum-told2 .given .1) (row-literal (row .0 .in-list) (a .pre .0) (a .pre .1 .1 .0) (a .pre .1 .1 .1 .1) (c .known-row2 .ensures))
 
 returns-6 : tie.Need-returns-6
 returns-6 c =
@@ -193,6 +196,7 @@ step-spec =
     cast-put-under-root-4
     put-under-root-requires-2
     enum-told-2
+    add-known-row-2
     known-row-requires-2
     enum-known-term-4
     cast-known-row-2
