@@ -5,7 +5,7 @@ use bench::rival::{Slots, Solver, MEET};
 use bench::sets::{self, Sample};
 use second::generate::{
     chain, deep, doubling, opened, program_with_floors, text_of_lines, text_of_table,
-    text_with_floors, Floors, Opening, Random,
+    text_with_floors, Floors, NumberCounts, Opening, Place, Random,
 };
 use second::qualifier::{meet, Qualifier};
 use second::to_try;
@@ -28,11 +28,13 @@ fn compare(texts: impl Iterator<Item = Vec<u8>>) -> [usize; 101] {
 fn closed_programs() {
     let mut random = Random::seeded(21);
     let (mut met, mut several_missed) = (0, 0);
+    let mut literals = NumberCounts::default();
     let programs = (0..3_000).map(|_| {
         let rows = random.between(1, 256);
         let table = program_with_floors(&mut random, rows).table();
         met += usize::from(Floors::of(&table) == Floors::Met);
         several_missed += usize::from(Floors::of(&table) == Floors::SeveralMissed);
+        literals.take(&table);
         text_of_table(&table)
     });
     let numbers = compare(programs);
@@ -40,6 +42,10 @@ fn closed_programs() {
         assert!(numbers[number] > 100, "{number}: {}", numbers[number]);
     }
     assert!(met > 300 && several_missed > 100, "{met} {several_missed}");
+    let operands = Place::operands().into_iter();
+    let places = operands.chain([Place::IgnoredArgument, Place::Argument, Place::Result]);
+    literals.places.assert_each(places.chain([Place::Body]), 300);
+    literals.words.assert_each(Qualifier::ALL.map(Qualifier::word), 200);
 }
 
 #[test]

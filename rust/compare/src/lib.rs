@@ -6,7 +6,6 @@ mod exported;
 
 pub mod buffers;
 pub mod calls;
-pub mod counts;
 pub mod numbers;
 pub mod pieces;
 pub mod programs;

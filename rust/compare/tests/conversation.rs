@@ -189,7 +189,7 @@ fn nothing_is_answered_before_a_line_ends() {
         ("\n", "NO,10,0\n"),
         ("add E,0,NU", ""),
         ("M,1\ninf", "0\n"),
-        ("er\n\n", "OK,0,1\nE,0,PLAIN,INT\n?\n"),
+        ("er\n\n", "OK,0,1\nE,0,RAND,INT\n?\n"),
     ] {
         conversation.write(part.as_bytes());
         conversation.assert_comes(expected.as_bytes());
@@ -202,7 +202,7 @@ fn nothing_is_answered_before_a_line_ends() {
 fn a_last_line_without_a_line_feed_is_answered_at_the_end() {
     for (last, expected) in [
         ("", ""),
-        ("infer", "OK,0,1\nE,0,PLAIN,INT\n"),
+        ("infer", "OK,0,1\nE,0,RAND,INT\n"),
         ("add ", "1\n"),
         ("take-back", "0\n"),
         ("redeclare 0 0", "5\n"),
@@ -270,6 +270,6 @@ fn conversations_do_not_disturb_each_other() {
     conversations[1].write(b"infer\n");
     conversations[1].assert_comes(b"NO,10,0\n");
     conversations[0].write(b"infer\n");
-    conversations[0].assert_comes(b"OK,0,1\nE,0,PLAIN,INT\n");
+    conversations[0].assert_comes(b"OK,0,1\nE,0,RAND,INT\n");
     conversations.into_iter().for_each(|conversation| conversation.assert_ends(b""));
 }

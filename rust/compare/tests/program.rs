@@ -48,7 +48,7 @@ fn an_empty_input_is_not_closed_and_an_empty_line_is_refused() {
     assert_prints("an empty line", b"\n", WHOLE, b"X,1,1\n");
     assert_prints("a number and an empty line", b"E,0,NUM,1\n\n", WHOLE, b"X,1,2\n");
     assert_prints("a number and a carriage return", b"E,0,NUM,1\r\n", WHOLE, b"X,1,1\n");
-    assert_prints("a number", b"E,0,NUM,1", WHOLE, b"OK,0,1\nE,0,PLAIN,INT\n");
+    assert_prints("a number", b"E,0,NUM,1", WHOLE, b"OK,0,1\nE,0,RAND,INT\n");
 }
 
 #[test]

@@ -3,11 +3,12 @@
 use compare::buffers::{
     assert_bytes, assert_same, filled_buffer, inner, random_buffer, shown, MARGIN,
 };
-use compare::counts::Counts;
 use compare::sessions::{adding, random_script, Kind};
 use compare::{placement_session, session_lent};
-use second::generate::{deep, text_of_lines, Random};
+use second::counts::Counts;
+use second::generate::{deep, text_of_lines, NumberCounts, Place, Random};
 use second::place::lines;
+use second::qualifier::Qualifier;
 use second::session::{answer, session, written, Command};
 use second::to_try;
 use second::Table;
@@ -232,6 +233,8 @@ struct Tally {
     /// The first word of a command, or `?`, with its number, as `add 0`.
     answers: Counts<String>,
     changes: Counts<Change>,
+    /// The NUM rows of the tables after the last line.
+    numbers: NumberCounts,
 }
 
 impl Tally {
@@ -259,6 +262,7 @@ impl Tally {
             }
             answers.extend(now);
         }
+        self.numbers.take(&table);
         answers
     }
 }
@@ -397,6 +401,10 @@ fn scripts_of_each_kind_are_answered_alike() {
     tally.changes.assert_each([Change::OtherReportAfterRedeclare], SCRIPTS / 4);
     let floors = [Change::FloorMissedAfterRedeclare, Change::FloorMetAfterRedeclare];
     tally.changes.assert_each(floors, SCRIPTS / 10);
+    println!("{:?}", tally.numbers);
+    tally.numbers.places.assert_each(Place::all(), SCRIPTS / 100);
+    tally.numbers.words.assert_each(Qualifier::ALL.map(Qualifier::word), SCRIPTS / 100);
+    tally.numbers.different_words.assert_each(2..=3, SCRIPTS / 100);
 }
 
 #[test]

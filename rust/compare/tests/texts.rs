@@ -2,14 +2,16 @@
 
 use compare::buffers::{assert_same, filled_buffer, inner, random_buffer, shown, MARGIN};
 use compare::calls::filling_lines;
-use compare::counts::Counts;
 use compare::placement_report;
 use compare::slowest::Slowest;
 use compare::texts::{closed_text, large_texts, random_text, Kind};
+use second::counts::Counts;
 use second::entry;
 use second::generate::{
-    chain, deep, doubling, text_of_lines, text_with_floors, Damage, Floors, Random,
+    chain, deep, doubling, possible_words, text_of_lines, text_with_floors, Damage, Floors,
+    NumberCounts, Partner, Place, Random,
 };
+use second::operation::Operation;
 use second::place::lines;
 use second::qualifier::Qualifier;
 use second::report::LONGEST_REPORT;
@@ -229,10 +231,14 @@ fn each_row_of_a_long_sum_is_named() {
         };
         let applied = format!("E,{row},OP,ADD");
         assert_eq!(number(sum.replace(&applied, &format!("E,{row},APP"))), 21_000 + row);
-        let plain_first = encrypted("AH").replace("E,0,VAR,0", "E,0,NUM,1");
-        assert_eq!(number(plain_first), 22_000 + row);
+        let fhe_first = encrypted("AH").replace("E,0,VAR,0", "E,0,ENC,FHE,1");
+        assert_eq!(number(fhe_first), 22_000 + row);
         assert_eq!(number(encrypted("MH")), 23_000 + row);
         assert!(number(encrypted("FHE")) > 100_000);
+        // A number follows the sum, and so does a first one.
+        assert!(number(sum.replace(&variable, &format!("E,{leaf},NUM,1"))) > 100_000);
+        let number_first = encrypted("AH").replace("E,0,VAR,0", "E,0,NUM,1");
+        assert!(number(number_first) > 100_000);
     }
 }
 
@@ -319,36 +325,46 @@ fn tables_of_each_size_are_answered_alike() {
     let mut random = Random::seeded(2);
     let mut tally = Tally::default();
     let (mut sizes, mut floors) = (Counts::default(), Counts::default());
+    let mut numbers = NumberCounts::default();
     for _ in 0..TABLES {
         let text = closed_text(&mut random);
         let table = table(&text);
         assert!(table.closed());
         sizes.add(table.terms.len());
         floors.add(Floors::of(&table));
+        numbers.take(&table);
         tally.compare(&mut random, "a closed table", &text, Room::Exact);
     }
-    println!("{:?}", floors.0);
+    println!("{:?}\n{numbers:?}", floors.0);
     sizes.assert_each(1..=Table::TERM_LIMIT, 5);
     floors.assert_each(Floors::ALL, TABLES / 50);
     floors.assert_each([Floors::Plain, Floors::NoTyping, Floors::Met], TABLES / 8);
     assert_eq!(tally.answers.0.keys().copied().collect::<Vec<u32>>(), VERDICTS);
     tally.answers.assert_each(VERDICTS, TABLES / 20);
     tally.assert_each_word(TABLES / 3_000);
+    numbers.places.assert_each(Place::all(), TABLES / 60);
+    numbers.partners.assert_each(Partner::all(), TABLES / 200);
+    numbers.words.assert_each(Qualifier::ALL.map(Qualifier::word), TABLES / 20);
+    numbers.operand_words.assert_each(possible_words(), TABLES / 600);
+    numbers.different_words.assert_each(2..=4, TABLES / 100);
     tally.finish(&format!("{TABLES} closed tables"));
 }
 
 #[test]
 fn tables_with_deep_sharing_are_answered_alike() {
     let mut random = Random::seeded(3);
-    let mut tally = Tally::default();
+    let (mut tally, mut numbers) = (Tally::default(), NumberCounts::default());
     for _ in 0..SPECIAL_TABLES {
         let text = doubling(&mut random);
         let text = text_with_floors(&mut random, &text);
-        let types = table(&text).types;
+        let table = table(&text);
+        let types = &table.types;
         assert_eq!(types.len(), Table::TYPE_LIMIT);
         assert!((1..types.len()).all(|row| uses_twice(&types[row], row - 1)));
+        numbers.take(&table);
         tally.compare(&mut random, "deep sharing", &text, Room::Longer);
     }
+    numbers.places.assert_each(Place::operands(), SPECIAL_TABLES / 40);
     tally.answers.assert_each(VERDICTS, SPECIAL_TABLES / 50);
     tally.finish(&format!("{SPECIAL_TABLES} tables with deep sharing"));
 }
@@ -362,14 +378,18 @@ fn uses_twice(row: &TypeRow, other: usize) -> bool {
 #[test]
 fn chains_of_256_rows_are_answered_alike() {
     let mut random = Random::seeded(4);
-    let mut tally = Tally::default();
+    let (mut tally, mut numbers) = (Tally::default(), NumberCounts::default());
     for _ in 0..SPECIAL_TABLES {
         let text = chain(&mut random);
         let text = text_with_floors(&mut random, &text);
         let table = table(&text);
         assert_eq!((table.terms.len(), table.closed()), (Table::TERM_LIMIT, true));
+        numbers.take(&table);
         tally.compare(&mut random, "a chain of 256 rows", &text, Room::Exact);
     }
+    let arithmetic = [Operation::Add, Operation::Mul];
+    let operands = arithmetic.map(Place::Left).into_iter().chain(arithmetic.map(Place::Right));
+    numbers.places.assert_each(operands.chain([Place::Argument]), SPECIAL_TABLES);
     tally.answers.assert_each(VERDICTS, SPECIAL_TABLES / 50);
     tally.finish(&format!("{SPECIAL_TABLES} chains of 256 rows"));
 }

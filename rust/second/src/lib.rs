@@ -6,6 +6,7 @@
 #![warn(missing_docs)]
 
 pub mod classes;
+pub mod counts;
 pub mod generate;
 pub mod line;
 pub mod operation;

@@ -3,7 +3,7 @@
 use crate::qualifier::Qualifier;
 
 /// An operation; its code is its position in this list.
-#[derive(Clone, Copy, Debug, PartialEq, Eq, Hash)]
+#[derive(Clone, Copy, Debug, PartialEq, Eq, PartialOrd, Ord, Hash)]
 pub enum Operation {
     /// Addition.
     Add,

@@ -70,7 +70,7 @@ pub enum Term {
         /// The parameter.
         parameter: u16,
     },
-    /// `NUM`: a number that is not encrypted.
+    /// `NUM`: a number that is encrypted before upload where its qualifier is a scheme.
     Number {
         /// The number.
         value: u32,

@@ -80,6 +80,11 @@ impl Solution {
         Qualified { qualifier: self.classes.unknown(), type_id: self.unknown_type() }
     }
 
+    /// INT under a new unknown qualifier.
+    pub fn unknown_integer(&mut self) -> Qualified {
+        Qualified { qualifier: self.classes.unknown(), type_id: Solution::INT }
+    }
+
     /// Makes two qualified types equal; false if that leaves no solution.
     pub fn equate(&mut self, left: Qualified, right: Qualified) -> bool {
         self.equate_qualifiers(left.qualifier, right.qualifier)

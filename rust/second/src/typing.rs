@@ -128,7 +128,8 @@ impl<'a> Inference<'a> {
             Term::Apply { function, argument } => self.apply(function, argument),
             Term::Operate { operation, left, right } => self.operate(operation, left, right),
             Term::Variable { parameter } => Some(self.parameter(parameter)),
-            Term::Number { .. } => Some(constant(Qualifier::Plain, Solution::INT)),
+            // Document 02, b): "a NUM row now has type INT under any one qualifier".
+            Term::Number { .. } => Some(self.solution.unknown_integer()),
             Term::Encrypted { scheme, .. } => Some(constant(scheme, Solution::INT)),
         }
     }

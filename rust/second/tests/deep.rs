@@ -5,6 +5,8 @@ mod common;
 use common::{assert_prints, table, text};
 use second::generate::deep;
 use second::place;
+use second::qualifier::Qualifier;
+use second::typing::judge;
 use std::time::{Duration, Instant};
 
 /// Asserts what `place` prints first, and that it takes less than a second.
@@ -78,7 +80,7 @@ fn a_long_application_is_judged() {
     for application in 0..127 {
         let row = 2 * application + 1;
         let shape = if application == 126 { "ANY" } else { "ARROW" };
-        expected += &format!(" E,{row},PLAIN,INT E,{},RAND,{shape}", row + 1);
+        expected += &format!(" E,{row},RAND,INT E,{},RAND,{shape}", row + 1);
     }
     expected += " E,255,PLAIN,ARROW";
     assert_prints(&deep::long_application(), &expected);
@@ -99,9 +101,44 @@ fn nested_applications_are_judged() {
 #[test]
 fn long_types_are_compared() {
     let program = deep::long_types;
-    assert_starts_quickly(&program("NUM,1", "OP,ADD"), "OK,2,253\nG,0,RAND\nG,1,RAND\n");
-    assert_starts_quickly(&program("ENC,AH,1", "OP,ADD"), "NO,22,249\n");
-    assert_starts_quickly(&program("NUM,1", "APP"), "NO,21,250\n");
+    let accepted = "OK,2,253\nG,0,RAND\nG,1,RAND\n";
+    assert_starts_quickly(&program(["NUM,1", "NUM,1"], "OP,ADD"), accepted);
+    assert_starts_quickly(&program(["NUM,1", "ENC,AH,1"], "OP,ADD"), accepted);
+    assert_starts_quickly(&program(["ENC,MH,1", "NUM,1"], "OP,ADD"), accepted);
+    assert_starts_quickly(&program(["ENC,MH,1", "ENC,AH,1"], "OP,ADD"), "NO,22,249\n");
+    assert_starts_quickly(&program(["NUM,1", "NUM,1"], "APP"), "NO,21,250\n");
+}
+
+#[test]
+fn a_number_follows_an_argument_in_the_same_place() {
+    // The last arguments stand in rows 246 and 248, the first ones in rows 2 and 4.
+    let judged = |last| judge(&table(&deep::long_types(last, "OP,ADD"))).unwrap();
+    for (last, word) in [
+        (["NUM,1", "NUM,1"], Qualifier::Rand),
+        (["NUM,1", "ENC,AH,1"], Qualifier::Ah),
+        (["ENC,MH,1", "NUM,1"], Qualifier::Mh),
+    ] {
+        let words = [2, 4, 246, 248].map(|row: usize| judged(last).terms[row].word);
+        assert_eq!(words, [Qualifier::Rand, Qualifier::Rand, word, word]);
+    }
+}
+
+#[test]
+fn numbers_in_sums_follow_the_sums() {
+    let expected = place(&text(&deep::long_sum()));
+    assert_eq!(place(&text(&deep::long_sum_with_numbers())), expected);
+    for (last, word, result) in [
+        ("ADD", "AH", "AH"),
+        ("MUL", "FHE", "FHE"),
+        ("EQ", "FHE", "PLAIN"),
+        ("LT", "FHE", "PLAIN"),
+        ("GT", "FHE", "PLAIN"),
+    ] {
+        let mut expected = String::from("OK,0,255");
+        expected += &(0..254).map(|row| format!(" E,{row},{word},INT")).collect::<String>();
+        expected += &format!(" E,254,{result},INT");
+        assert_prints(&deep::sums_of_sums_of_numbers(last), &expected);
+    }
 }
 
 #[test]

@@ -55,7 +55,7 @@ fn each_word_is_tested_against_each_floor() {
     for (floor, met_by) in AT_OR_ABOVE {
         for (word, _) in AT_OR_ABOVE {
             let program = unused(&[&format!("{word},0,{floor}")]);
-            let accepted = format!("OK,1,2 P,0,{word},INT E,0,PLAIN,INT E,1,PLAIN,ARROW");
+            let accepted = format!("OK,1,2 P,0,{word},INT E,0,RAND,INT E,1,PLAIN,ARROW");
             let met = met_by.contains(&word);
             assert_prints(&program, if met { &accepted } else { "NO,24,0" });
         }
@@ -79,11 +79,19 @@ fn the_greatest_typing_counts_and_no_lower_one() {
         &sum("g0,0,AH"),
         "OK,1,4 G,0,AH P,0,AH,INT E,0,AH,INT E,1,AH,INT E,2,AH,INT E,3,PLAIN,ARROW",
     );
-    // The number forces PLAIN on x, and with it on y.
+    // The comparison forces PLAIN on x, and with it on y.
+    assert_prints(
+        "T,0,INT P,0,g0,0,PLAIN P,1,g1,0,FHE
+         E,0,VAR,0 E,1,NUM,1 E,2,NUM,2 E,3,OP,LT,1,2 E,4,OP,ADD,0,3 E,5,VAR,1
+         E,6,OP,MUL,4,5 E,7,LAM,0,6 E,8,LAM,1,7",
+        "NO,24,1",
+    );
+    // A number forces nothing: the sum and the product leave FHE to all of them.
     assert_prints(
         "T,0,INT P,0,g0,0,PLAIN P,1,g1,0,FHE E,0,VAR,0 E,1,NUM,1 E,2,OP,ADD,0,1 E,3,VAR,1
          E,4,OP,MUL,2,3 E,5,LAM,0,4 E,6,LAM,1,5",
-        "NO,24,1",
+        "OK,2,7 G,0,FHE G,1,FHE P,0,FHE,INT P,1,FHE,INT E,0,FHE,INT E,1,FHE,INT E,2,FHE,INT
+         E,3,FHE,INT E,4,FHE,INT E,5,PLAIN,ARROW E,6,PLAIN,ARROW",
     );
 }
 

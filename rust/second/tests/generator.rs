@@ -2,10 +2,12 @@
 
 use second::generate::{
     any_bytes, call_list, chain, changed_line, closed_program, damaged_line, damaged_text,
-    doubling, opened, program_with_floors, text_of_table, text_with_floors, what_if_list, Call,
-    Damage, Floors, Opening, Program, Random, WRONG_FLOORS,
+    doubling, opened, possible_words, program_with_floors, text_of_table, text_with_floors,
+    what_if_list, Call, Damage, Floors, NumberCounts, Opening, Partner, Place, Program, Random,
+    WRONG_FLOORS,
 };
 use second::line::read;
+use second::operation::Operation;
 use second::place::{inferred, lines};
 use second::qualifier::{at_or_below, Qualifier};
 use second::rows::{Entry, TypeRow};
@@ -35,6 +37,15 @@ fn programs(seed: u64, count: usize) -> Vec<Program> {
 /// The number of an inference's refusal, 0 if it is accepted.
 fn number(table: &Table) -> u32 {
     table.infer(&mut [0; 6280]).number
+}
+
+/// The table that a text fills; each of its lines must be accepted.
+fn table(text: &[u8]) -> Table {
+    let mut table = Table::fresh();
+    for line in lines(text) {
+        assert_eq!(table.add(line), 0, "for the line {}", line.escape_ascii());
+    }
+    table
 }
 
 #[test]
@@ -217,10 +228,44 @@ fn the_features_occur() {
 }
 
 #[test]
+fn numbers_stand_everywhere() {
+    let mut numbers = NumberCounts::default();
+    for program in programs(47, 4000) {
+        numbers.take(&program.table());
+        // Here other qualifiers stand in the lines than after the redeclarations.
+        if !program.redeclarations.is_empty() {
+            numbers.take(&table(&program.text()));
+        }
+    }
+    numbers.places.assert_each(Place::all(), 60);
+    numbers.places.assert_each(Place::operands(), 400);
+    numbers.partners.assert_each(Partner::all(), 40);
+    numbers.words.assert_each(Qualifier::ALL.map(Qualifier::word), 200);
+    numbers.operand_words.assert_each(possible_words(), 15);
+    numbers.different_words.assert_each(2..=4, 50);
+}
+
+#[test]
+fn numbers_stand_in_chains_and_deep_programs() {
+    let mut random = Random::seeded(48);
+    let (mut deep, mut chains) = (NumberCounts::default(), NumberCounts::default());
+    for _ in 0..400 {
+        deep.take(&table(&doubling(&mut random)));
+        chains.take(&table(&chain(&mut random)));
+    }
+    deep.places.assert_each(Place::operands(), 10);
+    let arithmetic = [Operation::Add, Operation::Mul];
+    chains.places.assert_each(arithmetic.map(Place::Left), 300);
+    chains.places.assert_each(arithmetic.map(Place::Right), 300);
+    chains.places.assert_each([Place::Argument], 2_000);
+    chains.places.assert_each([Place::Function], 20);
+}
+
+#[test]
 fn damaged_lines_are_read_or_not() {
     let mut random = Random::seeded(26);
     let (mut well_formed, mut malformed) = (0, 0);
-    for program in programs(27, 60) {
+    for program in programs(27, 80) {
         for line in &program.lines {
             let changed = changed_line(&mut random, line.as_bytes());
             assert_eq!(changed.split(|&byte| byte == b',').count(), line.split(',').count());
@@ -326,12 +371,8 @@ fn opened_programs_are_accepted_and_not_closed() {
 #[test]
 fn the_text_of_a_table_fills_it_again() {
     for program in programs(35, 100) {
-        let table = program.table();
-        let mut filled = Table::fresh();
-        for line in lines(&text_of_table(&table)) {
-            assert_eq!(filled.add(line), 0);
-        }
-        assert_eq!(filled, table);
+        let filled = program.table();
+        assert_eq!(table(&text_of_table(&filled)), filled);
     }
 }
 

@@ -205,8 +205,8 @@ fn an_empty_line_counts() {
 
 #[test]
 fn a_last_line_without_line_feed_counts() {
-    assert_eq!(place(b"E,0,NUM,1"), b"OK,0,1\nE,0,PLAIN,INT\n");
-    assert_eq!(place(b"E,0,NUM,1\n"), b"OK,0,1\nE,0,PLAIN,INT\n");
+    assert_eq!(place(b"E,0,NUM,1"), b"OK,0,1\nE,0,RAND,INT\n");
+    assert_eq!(place(b"E,0,NUM,1\n"), b"OK,0,1\nE,0,RAND,INT\n");
     assert_eq!(place(b"E,0,NUM,1\nE"), b"X,1,2\n");
     assert_eq!(place(b"E,0,NUM,1\nE,1,NUM,1"), b"NO,10,0\n");
 }

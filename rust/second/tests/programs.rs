@@ -60,7 +60,7 @@ fn a_row_is_not_applied_to_itself() {
 
 #[test]
 fn a_number_alone_is_closed() {
-    assert_prints("E,0,NUM,1", "OK,0,1 E,0,PLAIN,INT");
+    assert_prints("E,0,NUM,1", "OK,0,1 E,0,RAND,INT");
     assert_prints("E,0,ENC,MH,1", "OK,0,1 E,0,MH,INT");
     assert!(table("E,0,NUM,1").closed());
     assert!(!Table::fresh().closed());

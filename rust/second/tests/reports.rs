@@ -70,7 +70,7 @@ fn variables_without_a_line_are_not_reported() {
     assert_eq!(table.redeclare(0, 2), 0);
     assert_eq!(table.redeclare(1, 12), 0);
     let mut buffer = [0; 6280];
-    let expected = b"OK,2,3\nG,5,RAND\nP,0,OP,INT\nP,1,RAND,INT\nE,0,PLAIN,INT\n\
+    let expected = b"OK,2,3\nG,5,RAND\nP,0,OP,INT\nP,1,RAND,INT\nE,0,RAND,INT\n\
                      E,1,PLAIN,ARROW\nE,2,PLAIN,ARROW\n";
     let length = expected.len() as u32;
     assert_eq!(table.infer(&mut buffer), Answer { number: 0, row: 0, length });
@@ -96,7 +96,7 @@ fn numbers_are_reported_rising() {
     for parameter in 0..11 {
         expected += &format!(" P,{parameter},RAND,INT");
     }
-    expected += " E,0,PLAIN,INT";
+    expected += " E,0,RAND,INT";
     for row in 1..12 {
         expected += &format!(" E,{row},PLAIN,ARROW");
     }
@@ -107,9 +107,9 @@ fn numbers_are_reported_rising() {
 fn a_buffer_of_6280_bytes_suffices_and_6279_do_not() {
     let table = table("E,0,NUM,1");
     let mut buffer = vec![1; 6280];
-    assert_eq!(table.infer(&mut buffer), Answer { number: 0, row: 0, length: 21 });
-    assert_eq!(buffer[..21], *b"OK,0,1\nE,0,PLAIN,INT\n");
-    assert!(buffer[21..].iter().all(|&byte| byte == 1));
+    assert_eq!(table.infer(&mut buffer), Answer { number: 0, row: 0, length: 20 });
+    assert_eq!(buffer[..20], *b"OK,0,1\nE,0,RAND,INT\n");
+    assert!(buffer[20..].iter().all(|&byte| byte == 1));
     let mut short = vec![1; 6279];
     assert_eq!(table.infer(&mut short), Answer { number: 11, row: 0, length: 0 });
     assert!(short.iter().all(|&byte| byte == 1));
@@ -140,11 +140,15 @@ fn the_entry_returns_number_and_line_or_row_or_parameter() {
     assert_entry_refuses(b"T,0,INT\nP,0,AH,0\nE,0,VAR,0\nE,1,LAM,0,0\nE,2,LAM,0,1\n", 8_005);
     assert_entry_refuses(b"E,0,NUM,1\nE,1,NUM,1\n", 10_000);
     assert_entry_refuses(b"E,0,NUM,1\nE,1,NUM,2\nE,2,APP,0,1\n", 21_002);
-    assert_entry_refuses(b"E,0,NUM,1\nE,1,ENC,AH,2\nE,2,OP,ADD,0,1\n", 22_002);
+    assert_entry_refuses(b"E,0,ENC,FHE,1\nE,1,ENC,AH,2\nE,2,OP,ADD,0,1\n", 22_002);
     assert_entry_refuses(b"E,0,ENC,MH,1\nE,1,ENC,MH,2\nE,2,OP,ADD,0,1\n", 23_002);
     assert_entry_refuses(b"T,0,INT\nP,0,AH,0,MH\nE,0,VAR,0\nE,1,LAM,0,0\n", 24_000);
     assert_entry_refuses(b"T,0,INT\nP,0,AH,0,ah\nE,0,VAR,0\nE,1,LAM,0,0\n", 1_002);
     assert_entry_accepts(b"E,0,ENC,MH,1", b"OK,0,1\nE,0,MH,INT\n");
+    assert_entry_accepts(
+        b"E,0,NUM,1\nE,1,ENC,AH,2\nE,2,OP,ADD,0,1\n",
+        b"OK,0,3\nE,0,AH,INT\nE,1,AH,INT\nE,2,AH,INT\n",
+    );
     assert_entry_accepts(
         b"T,0,INT\nP,0,AH,0,FHE\nE,0,VAR,0\nE,1,LAM,0,0\n",
         b"OK,1,2\nP,0,AH,INT\nE,0,AH,INT\nE,1,PLAIN,ARROW\n",

@@ -273,7 +273,7 @@ fn the_lowest_parameter_below_its_floor_is_named() {
             ("redeclare 0 3", "0"),
             (
                 "infer",
-                "OK,3,4 P,0,DET,INT P,1,DET,INT P,2,RAND,INT E,0,PLAIN,INT E,1,PLAIN,ARROW
+                "OK,3,4 P,0,DET,INT P,1,DET,INT P,2,RAND,INT E,0,RAND,INT E,1,PLAIN,ARROW
                  E,2,PLAIN,ARROW E,3,PLAIN,ARROW",
             ),
         ],
@@ -395,13 +395,13 @@ fn lines_are_parted_at_line_feeds() {
 #[test]
 fn the_entry_writes_where_there_is_room_for_all_answers() {
     let script = b"add E,0,NUM,1\ninfer\nhelp";
-    let answers = b"0\nOK,0,1\nE,0,PLAIN,INT\n?\n";
+    let answers = b"0\nOK,0,1\nE,0,RAND,INT\n?\n";
     for length in 0..=answers.len() + 2 {
         let mut buffer = vec![7; length];
-        assert_eq!(entry(script, &mut buffer), 25);
+        assert_eq!(entry(script, &mut buffer), 24);
         let mut expected = vec![7; length];
-        if length >= 25 {
-            expected[..25].copy_from_slice(answers);
+        if length >= 24 {
+            expected[..24].copy_from_slice(answers);
         }
         assert_eq!(shown(&buffer), shown(&expected), "for a buffer of {length}");
     }

@@ -2,7 +2,7 @@
 
 mod common;
 
-use common::{assert_prints, table};
+use common::{assert_prints, assert_supported, table};
 use second::qualifier::Qualifier;
 use second::typing::{judge, NoTyping};
 
@@ -58,12 +58,13 @@ fn the_least_row_decides_before_the_number() {
     );
     // Row 2 mixes constants, row 5 has no shape.
     assert_prints(
-        "E,0,ENC,AH,1 E,1,NUM,1 E,2,OP,ADD,0,1 E,3,NUM,1 E,4,NUM,1 E,5,APP,3,4 E,6,OP,ADD,2,5",
+        "E,0,ENC,AH,1 E,1,ENC,FHE,1 E,2,OP,ADD,0,1 E,3,NUM,1 E,4,NUM,1 E,5,APP,3,4
+         E,6,OP,ADD,2,5",
         "NO,22,2",
     );
     // Row 2 breaks a bound, row 5 mixes constants.
     assert_prints(
-        "E,0,ENC,DET,1 E,1,ENC,DET,1 E,2,OP,LT,0,1 E,3,NUM,1 E,4,ENC,AH,1 E,5,OP,ADD,3,4
+        "E,0,ENC,DET,1 E,1,ENC,DET,1 E,2,OP,LT,0,1 E,3,ENC,FHE,1 E,4,ENC,AH,1 E,5,OP,ADD,3,4
          E,6,OP,ADD,2,5",
         "NO,23,2",
     );
@@ -86,31 +87,7 @@ fn a_bound_can_break_at_an_application() {
 
 #[test]
 fn a_constant_is_tested_against_its_bounds() {
-    let program = |word: &str, operation: &str| {
-        format!("T,0,INT P,0,{word},0 E,0,VAR,0 E,1,VAR,0 E,2,OP,{operation},0,1 E,3,LAM,0,2")
-    };
-    // For each operation, the qualifiers at or below its highest scheme.
-    let supported = [
-        ("ADD", vec!["PLAIN", "FHE", "AH"]),
-        ("MUL", vec!["PLAIN", "FHE", "MH"]),
-        ("EQ", vec!["PLAIN", "FHE", "OP", "DET"]),
-        ("LT", vec!["PLAIN", "FHE", "OP"]),
-        ("GT", vec!["PLAIN", "FHE", "OP"]),
-    ];
-    for (operation, words) in supported {
-        for word in ["PLAIN", "FHE", "OP", "DET", "MH", "AH", "RAND"] {
-            let result = match operation {
-                "ADD" | "MUL" => word,
-                _ => "PLAIN",
-            };
-            let accepted = format!(
-                "OK,1,4 P,0,{word},INT E,0,{word},INT E,1,{word},INT E,2,{result},INT
-                 E,3,PLAIN,ARROW"
-            );
-            let fits = words.contains(&word);
-            assert_prints(&program(word, operation), if fits { &accepted } else { "NO,23,2" });
-        }
-    }
+    assert_supported("VAR,0", "VAR,0");
 }
 
 #[test]
@@ -146,12 +123,12 @@ fn plain_is_below_fhe() {
         "OK,1,6 P,0,PLAIN,INT E,0,PLAIN,INT E,1,PLAIN,INT E,2,PLAIN,INT E,3,PLAIN,INT
          E,4,PLAIN,INT E,5,PLAIN,ARROW",
     );
-    // The numbers force PLAIN after the class had the bound FHE.
+    // The comparison forces PLAIN after the class had the bound FHE.
     assert_prints(
-        "T,0,ANY P,0,g0,0 E,0,VAR,0 E,1,VAR,0 E,2,OP,ADD,0,1 E,3,NUM,1 E,4,OP,MUL,2,3
-         E,5,LAM,0,4",
-        "OK,1,6 G,0,PLAIN P,0,PLAIN,INT E,0,PLAIN,INT E,1,PLAIN,INT E,2,PLAIN,INT E,3,PLAIN,INT
-         E,4,PLAIN,INT E,5,PLAIN,ARROW",
+        "T,0,ANY P,0,g0,0 E,0,VAR,0 E,1,VAR,0 E,2,OP,ADD,0,1 E,3,NUM,1 E,4,NUM,1 E,5,OP,LT,3,4
+         E,6,OP,MUL,2,5 E,7,LAM,0,6",
+        "OK,1,8 G,0,PLAIN P,0,PLAIN,INT E,0,PLAIN,INT E,1,PLAIN,INT E,2,PLAIN,INT E,3,OP,INT
+         E,4,OP,INT E,5,PLAIN,INT E,6,PLAIN,INT E,7,PLAIN,ARROW",
     );
 }
 
@@ -197,8 +174,8 @@ fn qualifiers_beneath_arrows_are_compared() {
     assert_prints(&program("AH", "OP"), "NO,22,4");
     assert_prints(
         &program("AH", "DET"),
-        "OK,2,5 P,0,PLAIN,ARROW P,1,AH,INT E,0,PLAIN,INT E,1,PLAIN,ARROW E,2,DET,INT
-         E,3,PLAIN,ARROW E,4,PLAIN,INT",
+        "OK,2,5 P,0,PLAIN,ARROW P,1,AH,INT E,0,RAND,INT E,1,PLAIN,ARROW E,2,DET,INT
+         E,3,PLAIN,ARROW E,4,RAND,INT",
     );
 }
 
@@ -206,7 +183,11 @@ fn qualifiers_beneath_arrows_are_compared() {
 fn an_argument_has_exactly_the_qualifier() {
     // FHE is below AH, but an argument is not lowered.
     assert_prints("T,0,INT P,0,AH,0 E,0,VAR,0 E,1,LAM,0,0 E,2,ENC,FHE,1 E,3,APP,1,2", "NO,22,3");
-    assert_prints("T,0,INT P,0,AH,0 E,0,VAR,0 E,1,LAM,0,0 E,2,NUM,1 E,3,APP,1,2", "NO,22,3");
+    // Nor is PLAIN, the qualifier of a comparison's result, raised.
+    assert_prints(
+        "T,0,INT P,0,AH,0 E,0,VAR,0 E,1,LAM,0,0 E,2,NUM,1 E,3,NUM,1 E,4,OP,LT,2,3 E,5,APP,1,4",
+        "NO,22,5",
+    );
     // The qualifier of a LAM is PLAIN, also as an argument.
     assert_prints(
         "T,0,INT T,1,ANY P,0,AH,0 P,1,AH,1 E,0,VAR,0 E,1,LAM,0,0 E,2,NUM,1 E,3,LAM,1,2
@@ -220,7 +201,7 @@ fn declarations_after_a_row_count_in_every_prefix() {
     // The T and P lines come after all the rows that they do not concern.
     assert_prints(
         "E,0,NUM,1 T,0,ANY P,0,g0,0 E,1,LAM,0,0 T,1,ARROW,g0,0,g9,0",
-        "OK,1,2 G,0,RAND G,9,RAND P,0,RAND,ANY E,0,PLAIN,INT E,1,PLAIN,ARROW",
+        "OK,1,2 G,0,RAND G,9,RAND P,0,RAND,ANY E,0,RAND,INT E,1,PLAIN,ARROW",
     );
     // Declarations alone never break a row: the row of the APP is the least one.
     assert_prints(
@@ -240,7 +221,7 @@ fn named_variables_are_shared() {
     );
     // x of g0 and y of g0 with different constants elsewhere.
     assert_prints(
-        "T,0,INT P,0,g0,0 P,1,g0,0 E,0,VAR,0 E,1,ENC,AH,1 E,2,OP,ADD,0,1 E,3,VAR,1 E,4,NUM,1
+        "T,0,INT P,0,g0,0 P,1,g0,0 E,0,VAR,0 E,1,ENC,AH,1 E,2,OP,ADD,0,1 E,3,VAR,1 E,4,ENC,FHE,1
          E,5,OP,ADD,3,4 E,6,OP,ADD,2,5 E,7,LAM,0,6 E,8,LAM,1,7",
         "NO,22,5",
     );
@@ -251,12 +232,12 @@ fn results_of_unknown_functions_take_constants() {
     // f NUM + AH: the result of f is AH INT; f itself is unlimited.
     assert_prints(
         "T,0,ANY P,0,g0,0 E,0,VAR,0 E,1,NUM,1 E,2,APP,0,1 E,3,ENC,AH,1 E,4,OP,ADD,2,3 E,5,LAM,0,4",
-        "OK,1,6 G,0,RAND P,0,RAND,ARROW E,0,RAND,ARROW E,1,PLAIN,INT E,2,AH,INT E,3,AH,INT
+        "OK,1,6 G,0,RAND P,0,RAND,ARROW E,0,RAND,ARROW E,1,RAND,INT E,2,AH,INT E,3,AH,INT
          E,4,AH,INT E,5,PLAIN,ARROW",
     );
-    // f NUM, and f RAND: the argument's qualifier would have to be two constants.
+    // f DET, and f RAND: the argument's qualifier would have to be two constants.
     assert_prints(
-        "T,0,ANY P,0,g0,0 E,0,VAR,0 E,1,NUM,1 E,2,APP,0,1 E,3,VAR,0 E,4,ENC,RAND,1 E,5,APP,3,4
+        "T,0,ANY P,0,g0,0 E,0,VAR,0 E,1,ENC,DET,1 E,2,APP,0,1 E,3,VAR,0 E,4,ENC,RAND,1 E,5,APP,3,4
          E,6,OP,EQ,2,5 E,7,LAM,0,6",
         "NO,22,5",
     );

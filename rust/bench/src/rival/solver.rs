@@ -144,7 +144,7 @@ impl Solver {
                 return self.operate(operation, left, self.rows[usize::from(right)]);
             }
             Term::Variable { parameter: own } => parameter(own),
-            Term::Number { .. } => constant(Qualifier::Plain, INT),
+            Term::Number { .. } => Qualified { qualifier: self.qualifiers.fresh(), node: INT },
             Term::Encrypted { scheme, .. } => constant(scheme, INT),
         })
     }

@@ -34,7 +34,9 @@ pub fn call_list(random: &mut Random, rows: usize) -> Vec<Call> {
     let mut rows_added: Vec<Vec<u8>> = vec![];
     for line in program.lines {
         let line = line.into_bytes();
-        if random.one_in(6) {
+        // In long programs few lines name type rows, so other calls are more frequent there.
+        let others = if line.starts_with(b"E") { 6 } else { 4 };
+        if random.one_in(others) {
             calls.push(other_call(random, &line));
         }
         if random.one_in(12) {

@@ -1,6 +1,6 @@
 //! Random closed programs with deep sharing or with a chain of 256 rows.
 
-use super::goals::any_code;
+use super::goals::{any_code, wrong_scheme};
 use super::random::Random;
 use super::text::{code_text, text_of_lines};
 use crate::operation::Operation;
@@ -20,7 +20,7 @@ enum Join {
 /// A program of 64 type rows that each use the one before twice.
 ///
 /// Parameter p has type row p. Parameter 63 is applied to 62, the result to 61 and so on, and
-/// what is left of the type is compared with parameter 0.
+/// what is left of the type is compared with parameter 0 or a number.
 pub fn doubling(random: &mut Random) -> Vec<u8> {
     let qualifiers = Qualifiers::random(random);
     let mut lines = String::from(if random.one_in(2) { "T,0,ANY" } else { "T,0,INT" });
@@ -38,36 +38,43 @@ pub fn doubling(random: &mut Random) -> Vec<u8> {
         let argument = if application == wrong { random.below(64) } else { 62 - application };
         lines += &format!(" E,{row},VAR,{argument} E,{},APP,{},{row}", row + 1, row - 1);
     }
-    let operation = Operation::ALL[random.below(5)].word();
-    lines += &format!(" E,127,VAR,0 E,128,OP,{operation},126,127");
+    let last = if random.one_in(2) { "VAR,0" } else { NUMBER };
+    let operation = operation(random, &Operation::ALL, 126, 127);
+    lines += &format!(" E,127,{last} E,128,{operation}");
     for parameter in 0..64 {
         lines += &format!(" E,{},LAM,{parameter},{}", 129 + parameter, 128 + parameter);
     }
     text_of_lines(&lines)
 }
 
+/// The operations of a chain before its last one.
+const ARITHMETIC: [&[Operation]; 3] =
+    [&[Operation::Add], &[Operation::Mul], &[Operation::Add, Operation::Mul]];
+
 /// A program of 256 rows: a chain of rows and leaves under LAMs.
 pub fn chain(random: &mut Random) -> Vec<u8> {
     let join = [Join::Operations, Join::Applied, Join::Nested][random.below(3)];
     let qualifiers = Qualifiers::random(random);
-    let departures = [0, 0, 60, 400][random.below(4)];
     // With an odd number of LAMs all 256 rows can be used.
     let lambdas = 2 * random.below(32) + 1;
+    let leaves = Leaves::random(random, join, lambdas);
+    let arithmetic = ARITHMETIC[random.below(3)];
     let mut lines = String::new();
     for own in 0..lambdas {
         lines += &format!(" T,{own},ANY P,{own},{},{own}", qualifiers.text(random));
     }
-    lines += " E,0,VAR,0";
+    lines += &format!(" E,0,{}", leaves.first(random));
     let last = 255 - lambdas;
     for row in (1..last).step_by(2) {
-        lines += &format!(" E,{row},{}", leaf(random, join, lambdas, departures));
+        let (before, next) = (row - 1, row + 1);
+        lines += &format!(" E,{row},{}", leaves.next(random));
         lines += &match join {
             Join::Operations => {
-                let operation = Operation::ALL[random.below(if row + 1 < last { 2 } else { 5 })];
-                format!(" E,{},OP,{},{},{row}", row + 1, operation.word(), row - 1)
+                let operations = if next < last { arithmetic } else { &Operation::ALL };
+                format!(" E,{next},{}", operation(random, operations, before, row))
             }
-            Join::Applied => format!(" E,{},APP,{},{row}", row + 1, row - 1),
-            Join::Nested => format!(" E,{},APP,{row},{}", row + 1, row - 1),
+            Join::Applied => format!(" E,{next},APP,{before},{row}"),
+            Join::Nested => format!(" E,{next},APP,{row},{before}"),
         };
     }
     for own in 0..lambdas {
@@ -76,21 +83,68 @@ pub fn chain(random: &mut Random) -> Vec<u8> {
     text_of_lines(&lines)
 }
 
-/// A leaf of a chain; parameter 0 stands at the chain's start.
-fn leaf(random: &mut Random, join: Join, lambdas: usize, departures: usize) -> String {
-    let variable = |number: usize| format!("VAR,{number}");
-    let scheme = Qualifier::ALL[random.between(1, 6)].word();
-    let departs = random.one_in(departures);
-    match join {
-        _ if departs && random.one_in(2) => format!("ENC,{scheme},1"),
-        Join::Operations if departs => "NUM,1".to_string(),
-        Join::Operations => variable(random.below(lambdas)),
-        _ if departs => variable(0),
-        Join::Applied if lambdas == 1 || random.one_in(3) => "NUM,1".to_string(),
-        Join::Nested if lambdas == 1 => variable(0),
-        _ => variable(random.between(1, lambdas - 1)),
+/// One of these operations on two rows in either order.
+fn operation(random: &mut Random, operations: &[Operation], one: usize, other: usize) -> String {
+    let word = operations[random.below(operations.len())].word();
+    match random.one_in(2) {
+        true => format!("OP,{word},{one},{other}"),
+        false => format!("OP,{word},{other},{one}"),
     }
 }
+
+/// How the leaves of a chain are made.
+struct Leaves {
+    join: Join,
+    lambdas: usize,
+    /// Once in so many leaves one does not fit, 0 for never.
+    departures: usize,
+    /// Once in so many leaves that may be numbers one is, 0 for never.
+    numbers: usize,
+}
+
+impl Leaves {
+    /// The leaves of a chain.
+    fn random(random: &mut Random, join: Join, lambdas: usize) -> Leaves {
+        let (departures, numbers) = ([0, 0, 30, 400], [0, 2, 3, 40]);
+        Leaves {
+            join,
+            lambdas,
+            departures: departures[random.below(4)],
+            numbers: numbers[random.below(4)],
+        }
+    }
+
+    /// The leaf at the chain's start: parameter 0, or a number where it need not be a function.
+    fn first(&self, random: &mut Random) -> String {
+        match self.join {
+            Join::Operations | Join::Nested if random.one_in(self.numbers) => NUMBER.to_string(),
+            _ => "VAR,0".to_string(),
+        }
+    }
+
+    /// Any other leaf.
+    fn next(&self, random: &mut Random) -> String {
+        let (join, lambdas) = (self.join, self.lambdas);
+        let variable = |number: usize| format!("VAR,{number}");
+        if random.one_in(self.departures) {
+            return match join {
+                Join::Nested if random.one_in(4) => NUMBER.to_string(),
+                Join::Applied | Join::Nested if random.one_in(2) => variable(0),
+                _ => format!("ENC,{},1", wrong_scheme(random).word()),
+            };
+        }
+        match join {
+            Join::Operations if random.one_in(self.numbers) => NUMBER.to_string(),
+            Join::Operations => variable(random.below(lambdas)),
+            Join::Applied if lambdas == 1 || random.one_in(self.numbers) => NUMBER.to_string(),
+            Join::Nested if lambdas == 1 => variable(0),
+            _ => variable(random.between(1, lambdas - 1)),
+        }
+    }
+}
+
+/// A NUM leaf.
+const NUMBER: &str = "NUM,1";
 
 /// The declared qualifiers of a program: one everywhere or named variables, with a constant now and then.
 struct Qualifiers {

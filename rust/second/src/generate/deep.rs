@@ -88,6 +88,26 @@ pub fn long_sum() -> String {
     lines + " E,255,LAM,0,254"
 }
 
+/// The same sum with a number in the place of each leaf but the one in row 0.
+pub fn long_sum_with_numbers() -> String {
+    let mut lines = long_sum();
+    for row in (1..255).step_by(2) {
+        lines = lines.replacen(&format!(" E,{row},VAR,0 "), &format!(" E,{row},NUM,1 "), 1);
+    }
+    lines
+}
+
+/// 128 numbers joined pair by pair to one sum: 255 rows, the last of them this operation.
+pub fn sums_of_sums_of_numbers(last: &str) -> String {
+    let mut lines: String = (0..128).map(|row| format!(" E,{row},NUM,{row}")).collect();
+    for row in 128..255 {
+        let operation = if row == 254 { last } else { "ADD" };
+        let left = 2 * (row - 128);
+        lines += &format!(" E,{row},OP,{operation},{left},{}", left + 1);
+    }
+    lines
+}
+
 /// x applied to 127 numbers, one after the other: a type of 127 arrows.
 pub fn long_application() -> String {
     let mut lines = String::from("T,0,ANY P,0,g0,0 E,0,VAR,0");
@@ -108,15 +128,16 @@ pub fn nested_applications() -> String {
     lines + " E,253,LAM,0,252 E,254,LAM,1,253"
 }
 
-/// Two parameters of one ANY row are each applied to 62 arguments, then the results are joined.
-pub fn long_types(last: &str, join: &str) -> String {
+/// Two parameters of one ANY row are each applied to 61 numbers and a last argument, then the results are joined.
+pub fn long_types(last: [&str; 2], join: &str) -> String {
     let mut lines = String::from("T,0,ANY P,0,g0,0 P,1,g1,0 E,0,VAR,0 E,1,VAR,1");
     let (mut one, mut other) = (0, 1);
     for application in 0..62 {
-        let argument = if application == 61 { last } else { "NUM,1" };
+        let arguments = if application == 61 { last } else { ["NUM,1"; 2] };
         let row = 4 * application + 2;
-        lines += &format!(" E,{row},NUM,1 E,{},APP,{one},{row}", row + 1);
-        lines += &format!(" E,{},{argument} E,{},APP,{other},{}", row + 2, row + 3, row + 2);
+        lines += &format!(" E,{row},{} E,{},APP,{one},{row}", arguments[0], row + 1);
+        let (argument, result) = (row + 2, row + 3);
+        lines += &format!(" E,{argument},{} E,{result},APP,{other},{argument}", arguments[1]);
         (one, other) = (row + 1, row + 3);
     }
     lines + &format!(" E,250,{join},{one},{other} E,251,LAM,0,250 E,252,LAM,1,251")
@@ -223,11 +244,15 @@ pub fn all() -> Vec<(&'static str, String)> {
         ("a shared type of terms that clashes", shared_type_of_terms("INT", "ARROW,g0,1,g0,1")),
         ("a long sum", long_sum()),
         ("a long sum with two constants", two_constants),
+        ("a long sum with numbers", long_sum_with_numbers()),
+        ("sums of sums of numbers", sums_of_sums_of_numbers("ADD")),
+        ("a product of sums of numbers", sums_of_sums_of_numbers("MUL")),
         ("a long application", long_application()),
         ("nested applications", nested_applications()),
-        ("long types", long_types("NUM,1", "OP,ADD")),
-        ("long types with two constants", long_types("ENC,AH,1", "OP,ADD")),
-        ("long types that clash", long_types("NUM,1", "APP")),
+        ("long types", long_types(["NUM,1", "NUM,1"], "OP,ADD")),
+        ("long types with one constant", long_types(["NUM,1", "ENC,AH,1"], "OP,ADD")),
+        ("long types with two constants", long_types(["ENC,MH,1", "ENC,AH,1"], "OP,ADD")),
+        ("long types that clash", long_types(["NUM,1", "NUM,1"], "APP")),
         ("towers of arrows", towers_of_arrows(61, 61)),
         ("towers of arrows of different heights", towers_of_arrows(60, 62)),
         ("parameters joined in rising order", joined_parameters(false)),

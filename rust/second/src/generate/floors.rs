@@ -9,7 +9,7 @@ use crate::table::Table;
 use crate::typing::judge;
 
 /// How often a floor is missed in a program, where one can be: once in so many parameters, 0 for never.
-const MISSED: [usize; 6] = [0, 0, 0, 1, 3, 12];
+const MISSED: [usize; 7] = [0, 0, 0, 1, 3, 8, 24];
 
 /// A random closed program as [`closed_program`] makes it; two of three have floors.
 pub fn program_with_floors(random: &mut Random, rows: usize) -> Program {

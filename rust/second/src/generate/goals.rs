@@ -71,7 +71,8 @@ impl QualifierPlan {
     pub fn random(random: &mut Random, classes: usize) -> QualifierPlan {
         let mut constants = vec![Some(Qualifier::Plain)];
         for _ in 1..classes {
-            let constant = random.pick(&Qualifier::ALL).copied();
+            // Class 0 is PLAIN, so the others have schemes.
+            let constant = random.pick(&Qualifier::ALL[1..]).copied();
             constants.push(constant.filter(|_| random.one_in(2)));
         }
         QualifierPlan { constants }
@@ -115,7 +116,29 @@ pub fn any_word(random: &mut Random) -> Qualifier {
     Qualifier::ALL[random.below(Qualifier::ALL.len())]
 }
 
+/// Any of the six schemes.
+pub fn any_scheme(random: &mut Random) -> Qualifier {
+    // The first qualifier is PLAIN, which is no scheme.
+    Qualifier::ALL[random.between(1, Qualifier::ALL.len() - 1)]
+}
+
+/// A scheme for a wrong place, often FHE: as it supports every operation, it clashes where others break a bound.
+pub fn wrong_scheme(random: &mut Random) -> Qualifier {
+    match random.one_in(2) {
+        true => Qualifier::Fhe,
+        false => any_scheme(random),
+    }
+}
+
 /// Any code of a declared qualifier.
 pub fn any_code(random: &mut Random) -> u8 {
     random.below(usize::from(GREATEST_CODE) + 1) as u8
+}
+
+/// A code for a wrong place, often one of the seven qualifiers: most codes are variables, which clash with nothing.
+pub fn wrong_code(random: &mut Random) -> u8 {
+    match random.one_in(2) {
+        true => any_word(random).code(),
+        false => any_code(random),
+    }
 }

@@ -29,7 +29,7 @@ pub fn numbered(random: &mut Random, terms: &[Term]) -> Vec<Term> {
 }
 
 /// For each row, the row that has it as a child.
-fn parents(terms: &[Term]) -> Vec<Option<usize>> {
+pub fn parents(terms: &[Term]) -> Vec<Option<usize>> {
     let mut parents = vec![None; terms.len()];
     for (row, term) in terms.iter().enumerate() {
         for child in term.children() {

@@ -1,6 +1,6 @@
 //! Random closed programs of up to 256 rows, typable and not.
 
-use super::goals::{any_code, Aim, Departures, Goal, QualifierPlan};
+use super::goals::{any_code, wrong_code, wrong_scheme, Aim, Departures, Goal, QualifierPlan};
 use super::order;
 use super::random::Random;
 use crate::operation::Operation;
@@ -172,6 +172,8 @@ impl<'a> Builder<'a> {
         if argument_goal.fewest_rows() > most {
             argument_goal = Goal::int(argument_goal.class);
         }
+        // Leaves as arguments are tied to a parameter alone, and not to an operation.
+        let most = if self.random.one_in(2) { argument_goal.fewest_rows() } else { most };
         let argument_rows = self.random.between(argument_goal.fewest_rows(), most);
         let function = self.function(&argument_goal, goal, rows - 1 - argument_rows);
         let argument = self.term(argument_goal, argument_rows);
@@ -206,7 +208,8 @@ impl<'a> Builder<'a> {
     /// An operation on two terms, or a leaf where none fits.
     fn operation(&mut self, goal: &Goal, rows: usize) -> u16 {
         let supported = self.supported_operations(goal);
-        let Some(&(operation, class)) = self.random.pick(&supported).filter(|_| rows >= 3) else {
+        let Some((operation, class)) = self.preferred(&supported, rows).filter(|_| rows >= 3)
+        else {
             return self.leaf(goal);
         };
         let left_rows = self.random.between(1, rows - 2);
@@ -215,41 +218,65 @@ impl<'a> Builder<'a> {
         self.push(Term::Operate { operation, left, right })
     }
 
-    /// The operations that give the goal, each with a class for its operands.
-    fn supported_operations(&mut self, goal: &Goal) -> Vec<(Operation, usize)> {
-        let departs = self.random.one_in(self.departures.wrong_operation);
-        let supports = |operation: Operation, class: usize| match self.plan.constant(class) {
-            Some(constant) => departs || at_or_below(constant, operation.highest_scheme()),
-            None => true,
+    /// One of these operations, often one that makes good use of so many rows.
+    ///
+    /// Few schemes support arithmetic, so operands of a fixed scheme are mostly leaves.
+    fn preferred(
+        &mut self,
+        supported: &[(Operation, usize)],
+        rows: usize,
+    ) -> Option<(Operation, usize)> {
+        let is_fixed = |class| self.plan.constant(class).is_some_and(|it| it != Qualifier::Plain);
+        let is_preferred = |&&(operation, class): &&(Operation, usize)| match rows {
+            0..=8 => is_fixed(class),
+            _ => operation.keeps_qualifier(),
         };
-        let mut found = vec![];
-        for operation in Operation::ALL {
-            for class in 0..self.plan.classes() {
-                let result = if operation.keeps_qualifier() { class } else { 0 };
-                if result == goal.class && supports(operation, class) {
-                    found.push((operation, class));
-                }
-            }
+        let preferred: Vec<_> = supported.iter().filter(is_preferred).collect();
+        match self.random.pick(&preferred) {
+            Some(&&operation) if !self.random.one_in(3) => Some(operation),
+            _ => self.random.pick(supported).copied(),
         }
-        found
     }
 
-    /// A row without children: a parameter in scope, or a constant.
-    fn leaf(&mut self, goal: &Goal) -> u16 {
-        let variable = self.fitting_parameter(goal);
-        let constant = self.plan.constant(goal.class);
-        let departs = self.random.one_in(self.departures.wrong_qualifier);
-        let value = (self.random.number() >> self.random.between(32, 63)) as u32;
-        let scheme = match (constant, departs) {
-            (Some(constant), false) => constant,
-            _ => Qualifier::ALL[self.random.below(Qualifier::ALL.len())],
+    /// The operations that give the goal, each with a class for its operands that supports it, or does not where it departs.
+    fn supported_operations(&mut self, goal: &Goal) -> Vec<(Operation, usize)> {
+        let departs = self.random.one_in(self.departures.wrong_operation);
+        let classes = |operation| (0..self.plan.classes()).map(move |class| (operation, class));
+        let gives = |&(operation, class): &(Operation, usize)| {
+            goal.class == if operation.keeps_qualifier() { class } else { 0 }
         };
-        // Without a fixed qualifier only a parameter keeps the class free.
-        let prefers_variable = constant.is_none() || self.random.one_in(2);
+        let supports = |&(operation, class): &(Operation, usize)| {
+            let constant = self.plan.constant(class);
+            constant.is_none_or(|constant| at_or_below(constant, operation.highest_scheme()))
+        };
+        let all = Operation::ALL.into_iter().flat_map(classes).filter(gives);
+        let (supported, unsupported): (Vec<_>, Vec<_>) = all.partition(supports);
+        if departs && !unsupported.is_empty() {
+            unsupported
+        } else {
+            supported
+        }
+    }
+
+    /// A row without children: a parameter in scope, a number or an encrypted number.
+    fn leaf(&mut self, goal: &Goal) -> u16 {
+        let departs = self.random.one_in(self.departures.wrong_qualifier);
+        let variable = self.fitting_parameter(goal);
+        let value = (self.random.number() >> self.random.between(32, 63)) as u32;
+        let scheme = match self.plan.constant(goal.class) {
+            _ if departs => Some(wrong_scheme(self.random)),
+            Some(Qualifier::Plain) => None,
+            Some(constant) => Some(constant).filter(|_| self.random.one_in(2)),
+            // A scheme fixes the class, so it stays free where a parameter has it.
+            None if variable.is_some() => None,
+            None => Some(wrong_scheme(self.random)).filter(|_| self.random.one_in(2)),
+        };
+        let prefers_variable = !departs && !self.random.one_in(3);
         self.push(match (variable, scheme) {
-            (Some(parameter), _) if prefers_variable && !departs => Term::Variable { parameter },
-            (_, Qualifier::Plain) => Term::Number { value },
-            _ => Term::Encrypted { scheme, value },
+            (Some(parameter), _) if prefers_variable => Term::Variable { parameter },
+            (_, Some(scheme)) => Term::Encrypted { scheme, value },
+            // A number follows whatever it is tied to, so it fits every class.
+            _ => Term::Number { value },
         })
     }
 
@@ -272,7 +299,7 @@ impl<'a> Builder<'a> {
     /// A declared qualifier for a class.
     fn qualifier(&mut self, class: usize) -> u8 {
         match self.random.one_in(self.departures.wrong_qualifier) {
-            true => any_code(self.random),
+            true => wrong_code(self.random),
             false => self.plan.code(self.random, class),
         }
     }
@@ -331,7 +358,7 @@ impl<'a> Builder<'a> {
         for (number, parameter) in self.params.iter_mut().enumerate() {
             if self.random.one_in(often) {
                 redeclarations.push((number as u64, u64::from(parameter.qualifier)));
-                parameter.qualifier = any_code(self.random);
+                parameter.qualifier = wrong_code(self.random);
             }
         }
         redeclarations

@@ -2,7 +2,7 @@
 
 use super::calls::{lowered_and_restored, Call};
 use super::floors::program_with_floors;
-use super::goals::{any_code, any_word};
+use super::goals::{any_code, any_scheme, any_word};
 use super::random::Random;
 use crate::operation::Operation;
 use crate::qualifier::Qualifier;
@@ -63,17 +63,19 @@ fn rebuilt(random: &mut Random, rows: &[Vec<u8>]) -> Vec<Call> {
     calls
 }
 
-/// The row with any operation in the place of its own, or any encrypted number in the place of a number.
+/// The row with any operation in the place of its own, or any encrypted number or a number in the place of one.
 fn other_row(random: &mut Random, row: &[u8]) -> Vec<u8> {
     let mut fields: Vec<&[u8]> = row.split(|&byte| byte == b',').collect();
     let operation = Operation::ALL[random.below(Operation::ALL.len())];
-    // The first is PLAIN, which is no scheme.
-    let scheme = Qualifier::ALL[random.between(1, Qualifier::ALL.len() - 1)];
+    let scheme = any_scheme(random);
     match fields[2] {
         b"OP" => fields[3] = operation.word().as_bytes(),
         b"NUM" | b"ENC" => {
             fields.truncate(2);
-            fields.extend([b"ENC", scheme.word().as_bytes(), b"5"]);
+            match random.one_in(3) {
+                true => fields.extend([&b"NUM"[..], b"5"]),
+                false => fields.extend([&b"ENC"[..], scheme.word().as_bytes(), b"5"]),
+            }
         }
         _ => {}
     }

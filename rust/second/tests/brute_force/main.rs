@@ -3,13 +3,13 @@
 mod search;
 mod tables;
 
-use search::{search, Found, Rules};
-use second::generate::Random;
+use search::{most_rows, search, Found, Rules};
+use second::generate::{possible_words, NumberCounts, Place, Random};
 use second::qualifier::Qualifier;
 use second::report::LONGEST_REPORT;
 use second::typing::{judge, Shape};
 use second::{Answer, Table};
-use tables::{closed_table, tiny_table, Limits};
+use tables::{applying_table, closed_table, tiny_table, Limits};
 
 /// How many tables of each kind a test met.
 #[derive(Debug, Default)]
@@ -20,6 +20,8 @@ struct Tally {
     refused: [usize; 3],
     /// Closed tables with a typing and floors that are not all PLAIN, by how many are missed: none, one, several.
     floors: [usize; 3],
+    /// The NUM rows of all tables.
+    numbers: NumberCounts,
 }
 
 impl Tally {
@@ -127,11 +129,12 @@ fn compare_complete(seed: u64, tables: usize, limits: &Limits, make: Make) -> Ta
     for _ in 0..tables {
         let table = make(&mut random, limits);
         let all = search(&table, limits.variables, Rules::All, 0);
-        let without_bounds = search(&table, limits.variables, Rules::WithoutBounds, 0).most_rows;
+        let without_bounds = most_rows(&table, limits.variables, Rules::WithoutBounds, 0);
         let shapes = rows_with_shapes(&table, 0);
         let expected = searched_verdict(table.terms.len(), all.most_rows, without_bounds, shapes);
         assert_eq!(verdict(&table), expected, "in {table:?}");
         tally.count(expected.0);
+        tally.numbers.take(&table);
         if expected.0 == 0 {
             assert_greatest_words(&table, limits.variables, &all);
             assert_shapes(&table, &all);
@@ -146,6 +149,8 @@ fn tables_without_unknown_types_agree() {
     let limits = Limits { unknowns: 0, arrows: 9, constants: 9, variables: 3, rows: 8 };
     let tally = compare_complete(1, 1000, &limits, tiny_table);
     assert!(tally.accepted > 200 && tally.refused.iter().all(|&count| count > 40), "{tally:?}");
+    let others = [Place::Argument, Place::Function, Place::Body, Place::NoChild];
+    tally.numbers.places.assert_each(Place::operands().into_iter().chain(others), 50);
 }
 
 #[test]
@@ -153,6 +158,8 @@ fn tables_without_arrows_agree() {
     let limits = Limits { unknowns: 0, arrows: 0, constants: 1, variables: 3, rows: 14 };
     let tally = compare_complete(8, 500, &limits, tiny_table);
     assert!(tally.accepted > 100 && tally.refused[1] > 40 && tally.refused[2] > 40, "{tally:?}");
+    tally.numbers.places.assert_each(Place::operands(), 80);
+    tally.numbers.different_words.assert_each(2..=3, 50);
 }
 
 #[test]
@@ -161,14 +168,28 @@ fn closed_tables_without_unknown_types_agree() {
     let tally = compare_complete(9, 2500, &limits, closed_table);
     assert!(tally.refused.iter().all(|&count| count > 40), "{tally:?}");
     tally.assert_each_floor(50);
+    tally.numbers.places.assert_each(Place::operands(), 300);
 }
 
 #[test]
 fn closed_tables_without_arrows_agree() {
     let limits = Limits { unknowns: 0, arrows: 0, constants: 1, variables: 3, rows: 4 };
-    let tally = compare_complete(10, 1000, &limits, closed_table);
+    let tally = compare_complete(10, 1500, &limits, closed_table);
     assert!(tally.refused[1] > 40 && tally.refused[2] > 40, "{tally:?}");
     tally.assert_each_floor(70);
+    tally.numbers.places.assert_each(Place::operands(), 200);
+    let words = possible_words().into_iter().filter(|(operation, _)| operation.is_some());
+    tally.numbers.operand_words.assert_each(words, 15);
+}
+
+#[test]
+fn tables_that_apply_numbers_agree() {
+    let limits = Limits { unknowns: 0, arrows: 9, constants: 9, variables: 3, rows: 9 };
+    let tally = compare_complete(12, 1500, &limits, applying_table);
+    assert!(tally.accepted > 500 && tally.refused[1] > 200 && tally.refused[2] > 200, "{tally:?}");
+    let places = [Place::IgnoredArgument, Place::Argument, Place::Result, Place::Body];
+    tally.numbers.places.assert_each(Place::operands().into_iter().chain(places), 80);
+    tally.numbers.operand_words.assert_each(possible_words(), 5);
 }
 
 /// Compares the shapes of random tables; types nest at most as deep as there are arrows.
@@ -205,7 +226,7 @@ fn shapes_of_tables_with_three_unknown_types_agree() {
 
 /// The rows that have a typing without qualifiers, with types up to a depth.
 fn rows_with_shapes(table: &Table, depth: usize) -> usize {
-    search(table, 0, Rules::WithoutQualifiers, depth).most_rows
+    most_rows(table, 0, Rules::WithoutQualifiers, depth)
 }
 
 /// Compares a table of at most three arrows and counts it; tells whether the depth suffices for it.
@@ -218,10 +239,11 @@ fn compare(table: &Table, variables: usize, depth: usize, tally: &mut Tally) -> 
         assert!(all.most_rows <= verdict(table).1, "in {table:?}");
         return false;
     }
-    let without_bounds = search(table, variables, Rules::WithoutBounds, depth).most_rows;
+    let without_bounds = most_rows(table, variables, Rules::WithoutBounds, depth);
     let expected = searched_verdict(table.terms.len(), all.most_rows, without_bounds, shapes);
     assert_eq!(verdict(table), expected, "in {table:?}");
     tally.count(expected.0);
+    tally.numbers.take(table);
     if expected.0 == 0 {
         assert_greatest_words(table, variables, &all);
     }
@@ -272,7 +294,7 @@ fn tables_with_two_unknown_types_agree() {
 #[test]
 fn tables_with_a_deep_unknown_type_agree() {
     let limits = Limits { unknowns: 1, arrows: 3, constants: 9, variables: 0, rows: 7 };
-    let mut random = Random::seeded(5);
+    let mut random = Random::seeded(35);
     let mut compared = 0;
     while compared < 3 {
         let table = tiny_table(&mut random, &limits);

@@ -1,8 +1,8 @@
 //! An exhaustive search for typings over a finite set of types.
 //!
-//! A typing is determined by the named variables' qualifiers and the types of the ANY rows:
-//! everything else follows bottom up. The search tries all of them and checks the typing
-//! rules as they are written.
+//! A typing is determined by the named variables' qualifiers, the types of the ANY rows and the
+//! qualifiers of the NUM rows: everything else follows bottom up. The search tries all of them
+//! and checks the typing rules as they are written.
 
 use second::operation::Operation;
 use second::qualifier::Qualifier;
@@ -33,6 +33,15 @@ type TypeNumber = usize;
 type QualifiedType = (u8, TypeNumber);
 
 const INT: TypeNumber = 0;
+
+/// The codes of the qualifiers.
+const CODES: u8 = 7;
+
+/// A bit for each code.
+const EVERY_CODE: u8 = (1 << CODES) - 1;
+
+/// Stands for the qualifier of a NUM row as long as no row has used it: every code meets the rules.
+const UNDECIDED: u8 = CODES;
 
 /// The types that have been formed, each with its own number.
 #[derive(Default)]
@@ -79,18 +88,49 @@ pub enum Rules {
     All,
 }
 
+impl Rules {
+    /// How many qualifiers are told apart.
+    fn codes(self) -> u8 {
+        match self {
+            Rules::WithoutQualifiers => 1,
+            Rules::WithoutBounds | Rules::All => CODES,
+        }
+    }
+}
+
+/// What a search is for.
+#[derive(Clone, Copy, PartialEq)]
+enum Wanted {
+    /// How many rows from row 0 on have a typing; one of the whole table ends the search.
+    MostRows,
+    /// All typings of the whole table.
+    Typings,
+}
+
 /// One choice of the named variables' codes and the ANY rows' types.
 struct Choice {
     variables: Vec<u8>,
     unknowns: Vec<TypeNumber>,
 }
 
-/// A check of the rules for one choice.
+impl Choice {
+    /// Takes the variables' codes and the places of the types among the candidates.
+    fn take(&mut self, digits: &[usize], candidates: &[TypeNumber]) {
+        let (codes, places) = digits.split_at(self.variables.len());
+        self.variables.iter_mut().zip(codes).for_each(|(it, &code)| *it = code as u8);
+        self.unknowns.iter_mut().zip(places).for_each(|(it, &place)| *it = candidates[place]);
+    }
+}
+
+/// A check of the rules for one choice after the other, with every choice of the NUM rows' qualifiers.
 struct Check<'a> {
     table: &'a Table,
     rules: Rules,
-    choice: &'a Choice,
-    types: &'a mut Types,
+    wanted: Wanted,
+    choice: Choice,
+    types: Types,
+    /// The solver's words and shapes, where a typing may have them.
+    reported: Option<Judgement>,
     type_rows: Vec<TypeNumber>,
     rows: Vec<QualifiedType>,
 }
@@ -117,11 +157,15 @@ impl Check<'_> {
 
     /// Gives each type row its type.
     fn take_type_rows(&mut self) {
-        let mut unknowns = self.choice.unknowns.iter();
+        let mut unknown = 0;
+        self.type_rows.clear();
         for row in &self.table.types {
             let type_number = match *row {
                 TypeRow::Int => INT,
-                TypeRow::Any => *unknowns.next().unwrap(),
+                TypeRow::Any => {
+                    unknown += 1;
+                    self.choice.unknowns[unknown - 1]
+                }
                 TypeRow::Arrow { argument, result } => {
                     let parts = (self.declared(argument), self.declared(result));
                     self.types.arrow(parts.0, parts.1)
@@ -148,7 +192,8 @@ impl Check<'_> {
                 self.operate(operation, row(left), row(right))
             }
             Term::Variable { parameter } => Some(self.parameter(parameter)),
-            Term::Number { .. } => Some((self.qualifier(0), INT)),
+            // "A NUM row now has type INT under any one qualifier"; the row that uses it tries each.
+            Term::Number { .. } => Some((UNDECIDED, INT)),
             Term::Encrypted { scheme, .. } => Some((self.qualifier(scheme as u8), INT)),
         }
     }
@@ -170,26 +215,52 @@ impl Check<'_> {
         let supported = self.rules != Rules::All || AT_OR_BELOW[highest][usize::from(left.0)];
         (integers && left.0 == right.0 && supported).then_some((result, INT))
     }
-}
 
-/// The rows that meet their rules from row 0 on, with their types, for one choice.
-fn typed_rows(
-    table: &Table,
-    rules: Rules,
-    choice: &Choice,
-    types: &mut Types,
-) -> (Vec<QualifiedType>, Vec<QualifiedType>) {
-    let (type_rows, rows) = (vec![], vec![]);
-    let mut check = Check { table, rules, choice, types, type_rows, rows };
-    check.take_type_rows();
-    for &term in &table.terms {
-        match check.rule(term) {
-            Some(qualified) => check.rows.push(qualified),
-            None => break,
+    /// Tells whether nothing that is wanted is left to find.
+    fn is_over(&self, found: &Found) -> bool {
+        self.wanted == Wanted::MostRows && found.most_rows == self.table.terms.len()
+    }
+
+    /// Takes all typings that begin with the rows so far.
+    fn visit(&mut self, found: &mut Found) {
+        found.most_rows = found.most_rows.max(self.rows.len());
+        if self.is_over(found) {
+            return;
+        }
+        let Some(&term) = self.table.terms.get(self.rows.len()) else {
+            return self.take_typing(found);
+        };
+        let numbers: Vec<usize> = term
+            .children()
+            .map(usize::from)
+            .filter(|&child| self.rows[child].0 == UNDECIDED)
+            .collect();
+        self.visit_row(term, &numbers, found);
+    }
+
+    /// Goes on with the next row for every choice of these NUM rows' qualifiers.
+    ///
+    /// No row is a child twice, so that no rule before or after this row's speaks of them.
+    fn visit_row(&mut self, term: Term, numbers: &[usize], found: &mut Found) {
+        if let Some((&number, others)) = numbers.split_first() {
+            for code in 0..self.rules.codes() {
+                self.rows[number].0 = code;
+                self.visit_row(term, others, found);
+            }
+            self.rows[number].0 = UNDECIDED;
+        } else if let Some(qualified) = self.rule(term) {
+            self.rows.push(qualified);
+            self.visit(found);
+            self.rows.pop();
         }
     }
-    let params = table.params.iter().map(|parameter| check.declared(parameter.declared()));
-    (params.collect(), check.rows)
+
+    /// Takes a typing of the whole table.
+    fn take_typing(&self, found: &mut Found) {
+        let params = self.table.params.iter().map(|it| self.declared(it.declared()));
+        let slots: Vec<QualifiedType> = params.chain(self.rows.iter().copied()).collect();
+        found.take(self.table, &self.choice.variables, &slots, self.reported.as_ref());
+    }
 }
 
 /// What the search finds about one table.
@@ -197,8 +268,8 @@ fn typed_rows(
 pub struct Found {
     /// The greatest number of rows from row 0 on that have a typing.
     pub most_rows: usize,
-    /// The qualifiers of each variable, parameter and row in all typings of the whole table.
-    pub words: Vec<Vec<u8>>,
+    /// The qualifiers of each variable, parameter and row in all typings of the whole table, a bit for each code.
+    words: Vec<u8>,
     /// Whether each parameter and row is INT, and whether it is an arrow, in some typing.
     pub shapes: Vec<(bool, bool)>,
     /// Whether a typing has the solver's words, and its shapes with ANY taken as INT.
@@ -224,12 +295,10 @@ impl Found {
         let mut params = table.params.iter().zip(slots);
         self.meets_every_floor |= params.all(|(parameter, slot)| meets(parameter, slot.0));
         let words = || variables.iter().copied().chain(slots.iter().map(|slot| slot.0));
-        self.words.resize(words().count(), vec![]);
+        self.words.resize(words().count(), 0);
         self.shapes.resize(slots.len(), (false, false));
         for (seen, word) in self.words.iter_mut().zip(words()) {
-            if !seen.contains(&word) {
-                seen.push(word);
-            }
+            *seen |= if word == UNDECIDED { EVERY_CODE } else { 1 << word };
         }
         for (seen, slot) in self.shapes.iter_mut().zip(slots) {
             seen.0 |= slot.1 == INT;
@@ -237,7 +306,8 @@ impl Found {
         }
         self.has_reported |= reported.is_some_and(|judgement| {
             let is_same = |(slot, found): (&Slot, &QualifiedType)| {
-                slot.word.code() == found.0 && (slot.shape == Shape::Arrow) == (found.1 != INT)
+                let has_word = found.0 == UNDECIDED || found.0 == slot.word.code();
+                has_word && (slot.shape == Shape::Arrow) == (found.1 != INT)
             };
             let same_variable = |&(variable, word): &(u8, Qualifier)| {
                 variables[usize::from(variable)] == word.code()
@@ -255,12 +325,10 @@ impl Found {
 
     /// The greatest of the qualifiers that a slot has.
     pub fn greatest(&self, slot: usize) -> u8 {
-        let seen = &self.words[slot];
-        let is_greatest = |&&upper: &&u8| {
-            let below = |&lower: &u8| AT_OR_BELOW[usize::from(upper)][usize::from(lower)];
-            seen.iter().all(below)
-        };
-        *seen.iter().find(is_greatest).expect("the typings have a greatest qualifier")
+        let seen = || (0..CODES).filter(|code| self.words[slot] >> code & 1 == 1);
+        let is_greatest =
+            |&upper: &u8| seen().all(|lower| AT_OR_BELOW[usize::from(upper)][usize::from(lower)]);
+        seen().find(is_greatest).expect("the typings have a greatest qualifier")
     }
 }
 
@@ -276,30 +344,41 @@ fn advance(digits: &mut [usize], limits: &[usize]) -> bool {
     false
 }
 
-/// Tries every choice: variables from all qualifiers, ANY rows from all types up to a depth.
+/// All typings of a table, with variables and NUM rows from all qualifiers, ANY rows from all types up to a depth.
 pub fn search(table: &Table, variables: usize, rules: Rules, depth: usize) -> Found {
+    try_choices(table, variables, rules, depth, Wanted::Typings)
+}
+
+/// How many rows from row 0 on have such a typing.
+pub fn most_rows(table: &Table, variables: usize, rules: Rules, depth: usize) -> usize {
+    try_choices(table, variables, rules, depth, Wanted::MostRows).most_rows
+}
+
+/// Tries every choice, as far as it is wanted.
+fn try_choices(
+    table: &Table,
+    variables: usize,
+    rules: Rules,
+    depth: usize,
+    wanted: Wanted,
+) -> Found {
     let mut types = Types::default();
-    let codes = if rules == Rules::WithoutQualifiers { 1 } else { 7 };
-    let candidates = types.up_to_depth(depth, codes);
+    let candidates = types.up_to_depth(depth, rules.codes());
     let unknowns = table.types.iter().filter(|&&row| row == TypeRow::Any).count();
-    let mut limits = vec![usize::from(codes); variables];
+    let mut limits = vec![usize::from(rules.codes()); variables];
     limits.resize(variables + unknowns, candidates.len());
     let mut digits = vec![0; limits.len()];
     // Only with all rules the words can be a typing's.
     let reported = judge(table).ok().filter(|_| rules == Rules::All);
+    let choice = Choice { variables: vec![0; variables], unknowns: vec![INT; unknowns] };
+    let (type_rows, rows) = (vec![], vec![]);
+    let mut check = Check { table, rules, wanted, choice, types, reported, type_rows, rows };
     let mut found = Found::default();
     loop {
-        let choice = Choice {
-            variables: digits[..variables].iter().map(|&digit| digit as u8).collect(),
-            unknowns: digits[variables..].iter().map(|&digit| candidates[digit]).collect(),
-        };
-        let (mut slots, rows) = typed_rows(table, rules, &choice, &mut types);
-        found.most_rows = found.most_rows.max(rows.len());
-        if rows.len() == table.terms.len() {
-            slots.extend(rows);
-            found.take(table, &choice.variables, &slots, reported.as_ref());
-        }
-        if !advance(&mut digits, &limits) {
+        check.choice.take(&digits, &candidates);
+        check.take_type_rows();
+        check.visit(&mut found);
+        if check.is_over(&found) || !advance(&mut digits, &limits) {
             return found;
         }
     }

@@ -14,6 +14,38 @@ pub fn assert_prints(program: &str, expected: &str) {
     assert_eq!(printed, expected, "for the program {program}");
 }
 
+/// The seven words.
+pub const WORDS: [&str; 7] = ["PLAIN", "FHE", "OP", "DET", "MH", "AH", "RAND"];
+
+/// For each operation, the words at or below its highest scheme.
+const SUPPORTED: [(&str, &[&str]); 5] = [
+    ("ADD", &["PLAIN", "FHE", "AH"]),
+    ("MUL", &["PLAIN", "FHE", "MH"]),
+    ("EQ", &["PLAIN", "FHE", "OP", "DET"]),
+    ("LT", &["PLAIN", "FHE", "OP"]),
+    ("GT", &["PLAIN", "FHE", "OP"]),
+];
+
+/// Asserts that operands which have the qualifier of x, declared as each word, are accepted by the operations that support it, and refused with 23 by all others.
+pub fn assert_supported(left: &str, right: &str) {
+    for (operation, words) in SUPPORTED {
+        for word in WORDS {
+            let program = format!(
+                "T,0,INT P,0,{word},0 E,0,{left} E,1,{right} E,2,OP,{operation},0,1 E,3,LAM,0,2"
+            );
+            let result = match operation {
+                "ADD" | "MUL" => word,
+                _ => "PLAIN",
+            };
+            let accepted = format!(
+                "OK,1,4 P,0,{word},INT E,0,{word},INT E,1,{word},INT E,2,{result},INT
+                 E,3,PLAIN,ARROW"
+            );
+            assert_prints(&program, if words.contains(&word) { &accepted } else { "NO,23,2" });
+        }
+    }
+}
+
 /// Asserts what is printed of an inference, given as words separated by white space.
 pub fn assert_inferred(table: &Table, expected: &str) {
     let printed = String::from_utf8(inferred(table)).unwrap();

@@ -4,6 +4,7 @@ use std::collections::BTreeMap;
 use std::fmt::Debug;
 
 /// How often each thing occurred.
+#[derive(Debug)]
 pub struct Counts<T>(pub BTreeMap<T, usize>);
 
 impl<T> Default for Counts<T> {
