@@ -15,8 +15,8 @@ extern "C" {
 #endif
 
 /* The version of this header and of the archive that belongs to it. CHANGELOG.md lists the versions. */
-#define PLACEMENT_VERSION "2.0.0"
-#define PLACEMENT_VERSION_MAJOR 2
+#define PLACEMENT_VERSION "3.0.0"
+#define PLACEMENT_VERSION_MAJOR 3
 #define PLACEMENT_VERSION_MINOR 0
 #define PLACEMENT_VERSION_PATCH 0
 
@@ -73,6 +73,9 @@ enum placement_refusal {
  * bytes beyond it are as they were. Refused: returns the number and the place as above, and the whole buffer is as it was. A short buffer
  * is refused before the text is looked at.
  *
+ * Line E,i of the report is the table's row i. A NUM row's word is the scheme under which the loader encrypts that literal before upload;
+ * PLAIN leaves it in the open. The table's text has every literal in the open: do not upload it as it stands.
+ *
  * text: any bytes, of any length. They are read and never changed.
  * report: the caller's buffer. Nothing of it, or of the text, is kept after the call.
  *
@@ -94,7 +97,7 @@ uint32_t placement_report(const uint8_t *text, size_t text_length, uint8_t *repo
  *                      7 to 70 are g0 to g63. Both numbers are decimal, at most 4294967295 and without leading zeros. The
  *                      parameter's floor stays
  *   take-back          its number. Drops the last term row
- *   infer              the report, or NO,number,row; for 24 NO,24,parameter
+ *   infer              the report, as placement_report writes it, or NO,number,row; for 24 NO,24,parameter
  *   any other line     ? and nothing is changed
  *
  * Returns the length of all answers, at most SIZE_MAX. Where the buffer is long enough, they stand at its front, without a 0 at their end,

@@ -58,6 +58,9 @@ impl fmt::Display for Report {
 
 /// Finds the report of a table, whose lines are the text's, or why there is none.
 ///
+/// Line E,i of the report is the table's row i. A NUM row's word is the scheme under which the loader encrypts that literal before upload;
+/// PLAIN leaves it in the open. The table's text has every literal in the open: do not upload it as it stands.
+///
 /// Threads may call it at once. A call takes up to 128 KiB of stack, far less than a thread has by default.
 pub fn report(text: &[u8]) -> Result<Report, Refusal> {
     let mut bytes = vec![0; entry::REPORT_LENGTH];

@@ -12,7 +12,7 @@ const REPORT_A: &[u8] =
 /// A script with all four commands, and its answers.
 const SCRIPT: &[u8] =
     b"add E,0,NUM,1\ninfer\nredeclare 0 71\nadd E,2,NUM,1\nhelp\ntake-back\ntake-back\ninfer";
-const ANSWERS: &[u8] = b"0\nOK,0,1\nE,0,PLAIN,INT\n5\n2\n?\n0\n9\nNO,10,0\n";
+const ANSWERS: &[u8] = b"0\nOK,0,1\nE,0,RAND,INT\n5\n2\n?\n0\n9\nNO,10,0\n";
 
 fn refusal(text: &[u8]) -> Refusal {
     report(text).unwrap_err()
