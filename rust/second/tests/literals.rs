@@ -3,12 +3,12 @@
 mod common;
 
 use common::{assert_prints, assert_supported, WORDS};
+use second::counts::Counts;
 use second::generate::{closed_program, Random};
 use second::qualifier::{at_or_below, Qualifier};
 use second::rows::Term;
 use second::typing::{judge, Judgement, NoTyping};
 use second::Table;
-use std::collections::BTreeMap;
 
 #[test]
 fn a_number_follows_its_partner() {
@@ -232,16 +232,17 @@ fn assert_judged_by_choices(table: &Table) -> u32 {
 #[test]
 fn a_number_has_any_one_fixed_qualifier() {
     let mut random = Random::seeded(46);
-    let mut counts = BTreeMap::new();
+    let mut counts = Counts::default();
     for _ in 0..3_000 {
         let rows = random.between(1, 30);
         let table = closed_program(&mut random, rows).table();
         if (1..=2).contains(&number_rows(&table).len()) {
-            *counts.entry(assert_judged_by_choices(&table)).or_insert(0) += 1;
+            counts.add(assert_judged_by_choices(&table));
         }
     }
-    assert!(counts.keys().eq(&[0, 21, 22, 23]), "{counts:?}");
-    assert!(counts[&0] > 400 && counts.values().all(|&count| count > 50), "{counts:?}");
+    assert!(counts.0.keys().eq(&[0, 21, 22, 23]), "{counts:?}");
+    counts.assert_each([0], 400);
+    counts.assert_each([21, 22, 23], 50);
 }
 
 /// Tells whether a row is an operation with a number as an operand.
@@ -255,16 +256,16 @@ fn has_number_operand(table: &Table, row: u32) -> bool {
 fn an_operation_on_a_number_never_mixes_constants() {
     // The number takes the other operand's qualifier, so only shapes and the bound are left to refuse it.
     let mut random = Random::seeded(49);
-    let mut counts = BTreeMap::new();
+    let mut counts = Counts::default();
     for _ in 0..6_000 {
         let rows = random.between(1, 60);
         let table = closed_program(&mut random, rows).table();
         if let Err(NoTyping { number, row }) = judge(&table) {
             if has_number_operand(&table, row) {
-                *counts.entry(number).or_insert(0) += 1;
+                counts.add(number);
             }
         }
     }
-    assert!(counts.keys().eq(&[21, 23]), "{counts:?}");
-    assert!(counts.values().all(|&count| count > 25), "{counts:?}");
+    assert!(counts.0.keys().eq(&[21, 23]), "{counts:?}");
+    counts.assert_each([21, 23], 25);
 }
