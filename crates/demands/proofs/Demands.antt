@@ -65,7 +65,8 @@ pub demand-2-table : {call : Call} {o : Outcome} (before rest : List (Call × Ou
     Answers (standing freshMachine before) call o (standing freshMachine (before ++ ((call, o) ∷ [])))
 demand-2-table = session-standing
 
--- "An accepted inference reports schemes and shapes that complete to a typing".
+-- "An accepted inference reports schemes and shapes that complete to a typing by the seven rules of UCLA Technical Report 130012": with the rule of
+-- document 02, b) in place of Q-INT.
 pub demand-2-report : {m : Machine} {buffer : List ℕ} {o : Outcome} → Infers m buffer o → o .number ≡ 0 → ReportsTyping m buffer o
 demand-2-report = reports-typing
 
