@@ -294,9 +294,9 @@ fn tables_with_two_unknown_types_agree() {
 #[test]
 fn tables_with_a_deep_unknown_type_agree() {
     let limits = Limits { unknowns: 1, arrows: 3, constants: 9, variables: 0, rows: 7 };
-    let mut random = Random::seeded(35);
+    let mut random = Random::seeded(5);
     let mut compared = 0;
-    while compared < 3 {
+    while compared < 8 {
         let table = tiny_table(&mut random, &limits);
         // Only tables that need depth 2 are worth the search.
         let shapes = rows_with_shapes(&table, 3);
