@@ -11,12 +11,14 @@ use borrow.Author.Tests.{eqb-true, not-true}
 use Rattle.scheme.proofs.Every.{and-left, and-right}
 use Rattle.model.specs.Lists.{anyOf, allOf, contains, same, bytes}
 use Rattle.model.specs.Number.{numberOf}
-use Rattle.model.specs.Word.{qualifierWords, schemeWords, operationWords, placeIn, orElse, variableCode, wordOf, variableOf, qualifierOf, schemeOf, operationOf}
-use Rattle.model.specs.Line.{onto, fields, field, number, literal, qualifier, floor, scheme, operation, given, choose, exactly, intLine, anyLine, arrowLine, paramLine, lamLine, appLine, opLine, varLine, numLine, encLine, typeLine, leafLine, termLine, lineOf}
+use Rattle.model.specs.Word.{qualifierWords, schemeWords, operationWords, spells, placeIn, orElse, variableCode, wordOf, variableOf, qualifierOf, schemeOf, operationOf}
+use Rattle.model.specs.Line.{onto, fields, field, number, literal, qualifier, floor, scheme, operation, given, choose, exactly, tag, kind, intLine, anyLine, arrowLine, paramLine, lamLine, appLine, opLine, varLine, numLine, encLine, typeLine, leafLine, termLine, lineOf}
 use Rattle.model.specs.declared.Field.{Field}
 use Rattle.model.specs.declared.Field.the-variants.{Value, NoValue}
 use Rattle.model.specs.declared.Line.{Line}
 use Rattle.model.specs.declared.Line.the-variants.{NoForm}
+use Rattle.model.proofs.Lists.{same-bytes}
+use Rattle.model.proofs.Capitals.{capitals-contain, spells-exactly}
 use Rattle.line.proofs.Bounds.{floor-cases}
 use Rattle.demands.proofs.Decimal.{number-digits}
 use Rattle.demands.proofs.Without.{digits-without}
@@ -29,20 +31,18 @@ Clean s = contains 10 s ≡ false
 number-clean : (most v : ℕ) (f : List ℕ) → numberOf most f ≡ Value v → Clean f
 number-clean most v f e = digits-without 10 f refl (number-digits most v f e)
 
-same-bytes : (s t : List ℕ) → same s t ≡ true → s ≡ t
-same-bytes [] [] h = refl
-same-bytes [] (b ∷ bs) h = absurd (false≢true h)
-same-bytes (a ∷ as′) [] h = absurd (false≢true h)
-same-bytes (a ∷ as′) (b ∷ bs) h = ap₂ _∷_ (eqb-true a b (and-left (eqb a b) (same as′ bs) h)) (same-bytes as′ bs (and-right (eqb a b) (same as′ bs) h))
+same-clean : (f letter : List ℕ) → Clean letter → same f letter ≡ true → Clean f
+same-clean f letter clean h = ap (contains 10) (same-bytes f letter h) ∙ clean
 
-word-clean : (f word : List ℕ) → Clean word → same f word ≡ true → Clean f
-word-clean f word clean h = ap (contains 10) (same-bytes f word h) ∙ clean
+-- A line feed is no letter, so it is no byte's capital but its own.
+word-clean : (f word : List ℕ) → Clean word → spells f word ≡ true → Clean f
+word-clean f word clean h = sym (capitals-contain 10 (omega arith) f) ∙ ap (contains 10) (spells-exactly f word .0 h) ∙ clean
 
 place-clean : (c v : ℕ) (words : List (List ℕ)) (f : List ℕ) → allOf (λ word. not (contains 10 word)) words ≡ true → placeIn c words f ≡ Value v → Clean f
 place-clean c v [] f clean e = cc
-place-clean c v (word ∷ words) f clean e = by (same f word) refl (place-clean (c + 1) v words f (and-right (not (contains 10 word)) _ clean)) e
+place-clean c v (word ∷ words) f clean e = by (spells f word) refl (place-clean (c + 1) v words f (and-right (not (contains 10 word)) _ clean)) e
   where
-    by : (t : Bool) → same f word ≡ t → (placeIn (c + 1) words f ≡ Value v → Clean f) → cond t (Value c) (placeIn (c + 1) words f) ≡ Value v → Clean f
+    by : (t : Bool) → spells f word ≡ t → (placeIn (c + 1) words f ≡ Value v → Clean f) → cond t (Value c) (placeIn (c + 1) words f) ≡ Value v → Clean f
     by true h later e = word-clean f word (not-true (contains 10 word) (and-left (not (contains 10 word)) _ clean)) h
     by false h later e = later e
 
@@ -134,8 +134,11 @@ module _ (s : List ℕ) where
   floor-none {rest} four five = given-none (floor s) rest (λ v e. floor-cases s v e (λ n plain. four n v) (λ n word. five n (qualifier-word-clean v (field s 4) word) v))
 
   -- The tag stands in field 0, the kind's word in field 2.
-  word-none : (k : ℕ) (word : List ℕ) {line other : Line} → Clean word → (Clean (field s k) → line ≡ NoForm) → other ≡ NoForm → choose (same (field s k) word) line other ≡ NoForm
-  word-none k word clean none = choose-none (same (field s k) word) (λ e. none (word-clean (field s k) word clean e))
+  tag-none : (letter : List ℕ) {line other : Line} → Clean letter → (Clean (field s 0) → line ≡ NoForm) → other ≡ NoForm → choose (tag s letter) line other ≡ NoForm
+  tag-none letter clean none = choose-none (tag s letter) (λ e. none (same-clean (field s 0) letter clean e))
+
+  kind-none : (word : List ℕ) {line other : Line} → Clean word → (Clean (field s 2) → line ≡ NoForm) → other ≡ NoForm → choose (kind s word) line other ≡ NoForm
+  kind-none word clean none = choose-none (kind s word) (λ e. none (word-clean (field s 2) word clean e))
 
 infixl 60 _then_
 -- The first fields of a line are clean.
@@ -206,19 +209,19 @@ module _ (s : List ℕ) (feed : contains 10 s ≡ true) where
 
     type-none : typeLine s ≡ NoForm
     unfolding typeLine
-    type-none = word-none s 2 (bytes "INT") refl int-none (word-none s 2 (bytes "ANY") refl any-none (word-none s 2 (bytes "ARROW") refl arrow-none refl))
+    type-none = kind-none s (bytes "INT") refl int-none (kind-none s (bytes "ANY") refl any-none (kind-none s (bytes "ARROW") refl arrow-none refl))
 
     leaf-none : leafLine s ≡ NoForm
     unfolding leafLine
-    leaf-none = word-none s 2 (bytes "VAR") refl var-none (word-none s 2 (bytes "NUM") refl num-none (word-none s 2 (bytes "ENC") refl enc-none refl))
+    leaf-none = kind-none s (bytes "VAR") refl var-none (kind-none s (bytes "NUM") refl num-none (kind-none s (bytes "ENC") refl enc-none refl))
 
     term-none : termLine s ≡ NoForm
     unfolding termLine
-    term-none = word-none s 2 (bytes "LAM") refl lam-none (word-none s 2 (bytes "APP") refl app-none (word-none s 2 (bytes "OP") refl op-none leaf-none))
+    term-none = kind-none s (bytes "LAM") refl lam-none (kind-none s (bytes "APP") refl app-none (kind-none s (bytes "OP") refl op-none leaf-none))
 
   pub feed-no-form : lineOf s ≡ NoForm
   unfolding lineOf
   feed-no-form =
       choose-none (leb (length s) 64)
-      (λ short. word-none s 0 (bytes "T") refl type-none (word-none s 0 (bytes "P") refl param-none (word-none s 0 (bytes "E") refl term-none refl)))
+      (λ short. tag-none s (bytes "T") refl type-none (tag-none s (bytes "P") refl param-none (tag-none s (bytes "E") refl term-none refl)))
       refl

@@ -20,7 +20,7 @@ use Rattle.model.specs.declared.Field.{Field}
 use Rattle.model.specs.declared.Field.the-variants.{Value, NoValue}
 
 -- No value is none.
-none-is-none : {A : Type 0} (n : ℕ) → NoValue ≡ Value n → A
+pub none-is-none : {A : Type 0} (n : ℕ) → NoValue ≡ Value n → A
 none-is-none n e = let z : _≡_ {A = ℕ} 0 1 = cc in absurd (omega arith)
 
 -- A value that stands under a test was given: the test passed.
@@ -38,7 +38,7 @@ number-at-most most s n e = go (noLeadingZero s && allOf isDigit s) (leb (valueF
         omega (arith, leb-true (valueFrom 0 s) most (p ∙ and-right a b (r .0)))
 
 -- A place among words, counted from c.
-place-between : (c : ℕ) (words : List (List ℕ)) (s : List ℕ) (n : ℕ) → placeIn c words s ≡ Value n → (c ≤ n) × (n < c + length words)
+pub place-between : (c : ℕ) (words : List (List ℕ)) (s : List ℕ) (n : ℕ) → placeIn c words s ≡ Value n → (c ≤ n) × (n < c + length words)
 place-between c [] s n e = none-is-none n e
 place-between c (word ∷ words) s n e = by (spells s word) e (place-between (c + 1) words s n)
   where

@@ -1,18 +1,20 @@
--- What is written is read again: a number as `decimal` writes it, a qualifier as its word or as `g` with its number.
+-- What is written is read again: a number as `decimal` writes it, a qualifier as its word, in either case, or as `g` with its number.
 use Prim.Native.Nat.{ℕ, zero, suc, _+_, _-_, _*_, _/_, _%_, _≤_, _<_}
 use native.Mathlib.Omega.{arith}
 use mathlib.Core.Bool.{Bool, true, false, cond}
 use mathlib.Core.List.{List, [], _∷_, _++_}
-use mathlib.Core.Path.{_≡_, refl, ap, _∙_}
+use mathlib.Core.Path.{_≡_, refl, sym, ap, _∙_}
 use lib.Dec.{eqb, ltb}
 use lib.ListN.{getD}
 use borrow.Author.Tests.{le-leb, ne-eqb, ltb-true, ltb-false, eqb-true}
 use Rattle.scheme.proofs.Every.{every-at, and-left, and-right, and-both}
 use Rattle.model.specs.Lists.{allOf}
 use Rattle.model.specs.Number.{isDigit, valueFrom, noLeadingZero, numberOf, digits, decimal}
-use Rattle.model.specs.Word.{variableCode, wordOf, qualifierOf, qualifierWord}
+use Rattle.model.specs.Word.{qualifierWords, capital, capitals, spells, placeIn, variableCode, wordOf, qualifierOf, qualifierWord}
 use Rattle.model.specs.declared.Field.{Field}
 use Rattle.model.specs.declared.Field.the-variants.{Value, NoValue}
+use Rattle.model.proofs.Capitals.{spells-exactly, word-capitals}
+use Rattle.line.proofs.Bounds.{none-is-none, place-between}
 
 -- The bytes are digits of the value n without a leading zero; where n is not 0 the first is no 0, so that digits may follow.
 record Numeral (n : ℕ) (w : List ℕ) : Type 0 where
@@ -87,8 +89,29 @@ is-value c (Value n) e = ap Value (eqb-true n c e)
 is-value c NoValue e = let z : _≡_ {A = ℕ} 0 1 = cc in absurd (omega arith)
 
 pub word-of-word : (c : ℕ) → c < 7 → wordOf (qualifierWord c) ≡ Value c
-unfolding wordOf qualifierWord isValue
+unfolding capital spells wordOf qualifierWord isValue
 word-of-word c h = is-value c (wordOf (qualifierWord c)) (every-at 7 (λ k. isValue k (wordOf (qualifierWord k))) refl c h)
+
+-- A field is the word of a code exactly where its capitals are the word that is written for the code.
+place-spelled : (c : ℕ) (words : List (List ℕ)) (s : List ℕ) (n : ℕ) → placeIn c words s ≡ Value n → capitals s ≡ getD words (n - c) []
+place-spelled c [] s n e = none-is-none n e
+place-spelled c (word ∷ words) s n e = by (spells s word) refl e (place-spelled (c + 1) words s n)
+  where
+    by : (t : Bool) → spells s word ≡ t → cond t (Value c) (placeIn (c + 1) words s) ≡ Value n
+        → (placeIn (c + 1) words s ≡ Value n → capitals s ≡ getD words (n - (c + 1)) []) → capitals s ≡ getD (word ∷ words) (n - c) []
+    by true p q later =
+        let first : n - c ≡ 0 = (let v : c ≡ n = cc in omega arith) in
+        spells-exactly s word .0 p ∙ ap (λ (k : ℕ). getD (word ∷ words) k []) (sym first)
+    by false p q later =
+        let above : c + 1 ≤ n = place-between (c + 1) words s n q .0 in
+        let one-more : n - c ≡ suc (n - (c + 1)) = omega arith in
+        later q ∙ ap (λ (k : ℕ). getD (word ∷ words) k []) (sym one-more)
+
+pub word-exactly : (s : List ℕ) (c : ℕ) → (wordOf s ≡ Value c → capitals s ≡ qualifierWord c) × (c < 7 → capitals s ≡ qualifierWord c → wordOf s ≡ Value c)
+unfolding wordOf qualifierWord
+word-exactly s c =
+    let first : c - 0 ≡ c = omega arith in
+    (λ e. place-spelled 0 qualifierWords s c e ∙ ap qualifierWord first, λ h e. sym (word-capitals s) ∙ ap wordOf e ∙ word-of-word c h)
 
 pub qualifier-of-word : (c : ℕ) → c < 7 → qualifierOf (qualifierWord c) ≡ Value c
 unfolding qualifierOf
@@ -96,5 +119,5 @@ qualifier-of-word c h = simp (word-of-word c h)
 
 -- No word begins with `g`, so what does is a named variable.
 pub qualifier-of-variable : (k : ℕ) → k ≤ 63 → qualifierOf (103 ∷ decimal k) ≡ Value (k + 7)
-unfolding qualifierOf wordOf
+unfolding capital spells qualifierOf wordOf
 qualifier-of-variable k h = ap variableCode (number-of-decimal 63 k h)

@@ -14,10 +14,11 @@ use borrow.Author.Tests.{eq-eqb, ne-eqb}
 use Rattle.model.specs.Lists.{same}
 use Rattle.model.specs.Number.{numberOf}
 use Rattle.model.specs.Line.{fields, field}
-use Rattle.model.specs.Word.{spells, placeIn, orElse, variableCode, variableOf}
+use Rattle.model.specs.Word.{capital, capitals, spells, placeIn, orElse, variableCode, variableOf}
 use Rattle.model.specs.declared.Field.{Field}
 use Rattle.model.specs.declared.Field.the-variants.{Value, NoValue}
 use Rattle.model.proofs.Lists.{same-length}
+use Rattle.model.proofs.Capitals.{capitals-length, capitals-at}
 use Rattle.line.proofs.Bounds.{number-at-most}
 
 -- After i bytes the rest decides.
@@ -54,6 +55,36 @@ module _ (s t : List ℕ) (i : ℕ) (c : Compared s t i) where
         }
 
 pub ruleset compares = (same-length, same-first, same-end, same-differ, same-next)
+
+-- A word is compared with the capitals of the bytes.
+module _ (s word : List ℕ) where
+  pub spells-length : (length s ≡ length word → ⊥) → false ≡ spells s word
+  unfolding spells
+  spells-length h = same-length (capitals s) word (λ e. h (sym (capitals-length s) ∙ e))
+
+  pub spells-first : length s ≡ length word → Compared (capitals s) word 0
+  spells-first e = same-first (capitals s) word (capitals-length s ∙ e)
+
+  module _ (i : ℕ) (c : Compared (capitals s) word i) where
+    pub spells-end : length s ≤ i → true ≡ spells s word
+    unfolding spells
+    spells-end h = same-end (capitals s) word i c (omega (arith, capitals-length s))
+
+    module _ (r : ℕ) (h : i < length s) (e : r ≡ capital (getD s i 0)) where
+      below : i < length (capitals s)
+      below = omega (arith, capitals-length s)
+
+      here : r ≡ getD (capitals s) i 0
+      here = e ∙ sym (capitals-at s i)
+
+      pub spells-differ : (r ≡ getD word i 0 → ⊥) → false ≡ spells s word
+      unfolding spells
+      spells-differ d = same-differ (capitals s) word i c below (λ p. d (here ∙ p))
+
+      pub spells-next : r ≡ getD word i 0 → Compared (capitals s) word (i + 1)
+      spells-next p = same-next (capitals s) word i c below (sym here ∙ p)
+
+pub ruleset spelling = (spells-length, spells-first, spells-end, spells-differ, spells-next)
 
 -- After k words the place is that among the rest.
 pub record Placed (s words : List ℕ) (first n k : ℕ) : Type 0 where

@@ -4,7 +4,7 @@ ghost use Prim.Native.Nat.{_+_, _≤_};
 ghost use lib.ListN.{length};
 ghost use Rattle.model.specs.Lists.{same};
 ghost use Rattle.model.specs.Line.{fields};
-ghost use Rattle.model.specs.Word.{spells, placeIn, wordOf, variableOf, qualifierOf, schemeOf, operationOf};
+ghost use Rattle.model.specs.Word.{capital, spells, placeIn, wordOf, variableOf, qualifierOf, schemeOf, operationOf};
 use crate::fields;
 use crate::numbers;
 use model::Field;
@@ -26,11 +26,31 @@ pub fn same(s: &[u8], t: &[u8]) -> bool
     true
 }
 
-// Whether the bytes spell the word: capitals only.
+// A small letter's capital; every other byte as it is.
+fn capital(b: u8) -> u8
+    ensures { λ r. ⌜ r ≡ capital b ⌝ }
+{
+    match b {
+        b'a'..=b'z' => b - 32,
+        _ => b,
+    }
+}
+
+// Whether the bytes spell the word, which is in capitals, in either case.
 pub(crate) fn spells(s: &[u8], word: &[u8]) -> bool
     ensures { λ r. ⌜ r ≡ spells (now (s .entry)) (now (word .entry)) ⌝ }
 {
-    same(s, word)
+    if s.len() != word.len() {
+        return false;
+    }
+    let mut i = 0;
+    while i < s.len() {
+        if capital(s[i]) != word[i] {
+            return false;
+        }
+        i += 1;
+    }
+    true
 }
 
 // The place of the bytes among words that are parted by commas, counted from `first`.

@@ -5,13 +5,13 @@ use mathlib.Core.List.{List, [], _∷_, map}
 use mathlib.Core.Path.{_≡_, refl}
 use Rattle.model.specs.Lists.{bytes}
 use Rattle.model.specs.Number.{numberOf}
-use Rattle.model.specs.Word.{wordOf, qualifierOf, schemeOf, operationOf}
+use Rattle.model.specs.Word.{capital, spells, wordOf, qualifierOf, schemeOf, operationOf}
 use Rattle.model.specs.Line.{floor, given, choose, exactly, intLine, anyLine, arrowLine, paramLine, lamLine, appLine, opLine, varLine, numLine, encLine, typeLine, leafLine, termLine, lineOf}
 use Rattle.model.specs.Machine.{Machine, Change, freshMachine, firstFailing, typeRefusal, paramRefusal, termRefusal, settled, entered, added}
 
 -- An add, with all that it rests on open to computing.
 adding : Machine → String → Change
-unfolding added lineOf typeLine leafLine termLine intLine anyLine arrowLine paramLine lamLine appLine opLine varLine numLine encLine given choose exactly numberOf wordOf qualifierOf floor schemeOf operationOf entered settled firstFailing typeRefusal paramRefusal termRefusal
+unfolding added lineOf typeLine leafLine termLine intLine anyLine arrowLine paramLine lamLine appLine opLine varLine numLine encLine given choose exactly numberOf capital spells wordOf qualifierOf floor schemeOf operationOf entered settled firstFailing typeRefusal paramRefusal termRefusal
 adding m text = added m (bytes text)
 
 -- The numbers that the adds of lines in turn return.
@@ -46,6 +46,21 @@ lines-in-turn =
     ∷ ("E,3,OP,ADD,0,2", 7)
     ∷ ("E,3,OP,ADD,1,2", 0)
     ∷ ("", 1)
+    ∷ ("T,2,int", 0)
+    ∷ ("T,3,aNy", 0)
+    ∷ ("T,4,arrow,ah,0,G63,0", 1)
+    ∷ ("T,4,Arrow,aH,0,g63,0", 0)
+    ∷ ("p,1,rand,4,det", 1)
+    ∷ ("P,1,rand,4,det", 0)
+    ∷ ("e,4,num,7", 1)
+    ∷ ("E,4,enc,plain,7", 1)
+    ∷ ("E,4,enc,{and,7", 1)
+    ∷ ("E,4,Enc,Rand,7", 0)
+    ∷ ("E,5,num,7", 0)
+    ∷ ("E,6,op,gt,4,5", 0)
+    ∷ ("E,7,vaR,1", 0)
+    ∷ ("E,8,App,6,7", 0)
+    ∷ ("E,9,lam,1,8", 0)
     ∷ []
 
 lines-are-answered : returned freshMachine (map (λ l. l .0) lines-in-turn) ≡ map (λ l. l .1) lines-in-turn

@@ -1,4 +1,5 @@
 pub mod Lists
+pub mod Capitals
 pub mod Digits
 pub mod Fewer
 pub mod Weaker

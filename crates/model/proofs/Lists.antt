@@ -1,12 +1,24 @@
--- Bytes of another count are not the same; and no more bytes stand before the first of a kind than there are.
+-- Bytes that are the same, and bytes of another count, which are not; and no more bytes stand before the first of a kind than there are.
 use Prim.Native.Nat.{ℕ, suc, _≤_}
 use native.Mathlib.Omega.{arith}
-use mathlib.Core.Bool.{Bool, true, false, cond, and-false}
+use mathlib.Core.Bool.{Bool, true, false, cond, and-false, false≢true}
 use mathlib.Core.List.{List, [], _∷_}
-use mathlib.Core.Path.{_≡_, refl, sym, ap}
+use mathlib.Core.Path.{_≡_, refl, sym, ap, ap₂}
 use lib.Dec.{eqb}
 use lib.ListN.{length}
+use borrow.Author.Tests.{eqb-true, eq-eqb}
+use Rattle.scheme.proofs.Every.{and-left, and-right, and-both}
 use Rattle.model.specs.Lists.{same, lengthBefore}
+
+pub same-bytes : (s t : List ℕ) → same s t ≡ true → s ≡ t
+same-bytes [] [] h = refl
+same-bytes [] (b ∷ bs) h = absurd (false≢true h)
+same-bytes (a ∷ as′) [] h = absurd (false≢true h)
+same-bytes (a ∷ as′) (b ∷ bs) h = ap₂ _∷_ (eqb-true a b (and-left (eqb a b) (same as′ bs) h)) (same-bytes as′ bs (and-right (eqb a b) (same as′ bs) h))
+
+pub same-self : (s : List ℕ) → same s s ≡ true
+same-self [] = refl
+same-self (b ∷ bs) = and-both (eqb b b) (same bs bs) (eq-eqb b b refl) (same-self bs)
 
 pub same-length : (s t : List ℕ) → (length s ≡ length t → ⊥) → false ≡ same s t
 same-length [] [] h = absurd (h refl)

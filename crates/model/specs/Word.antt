@@ -1,9 +1,9 @@
 -- The words of a line and of the report, with their codes.
--- Document 01, "Schemes and their order" and "Lines and the table".
-use Prim.Native.Nat.{ℕ, _+_}
-use mathlib.Core.Bool.{Bool, true, false, cond}
-use mathlib.Core.List.{List, [], _∷_}
-use lib.Dec.{eqb}
+-- Document 01, "Schemes and their order" and "Lines and the table"; document 02, a) and c).
+use Prim.Native.Nat.{ℕ, _+_, _-_}
+use mathlib.Core.Bool.{Bool, true, false, _&&_, cond}
+use mathlib.Core.List.{List, [], _∷_, map}
+use lib.Dec.{eqb, leb}
 use lib.ListN.{getD}
 use Rattle.model.specs.Lists.{same, bytes}
 use Rattle.model.specs.Number.{numberOf}
@@ -18,9 +18,17 @@ qualifierWords = bytes "PLAIN" ∷ bytes "FHE" ∷ bytes "OP" ∷ bytes "DET" �
 abbrev pub operationWords : List (List ℕ)
 operationWords = bytes "ADD" ∷ bytes "MUL" ∷ bytes "EQ" ∷ bytes "LT" ∷ bytes "GT" ∷ []
 
--- The bytes spell the word: capitals only.
-abbrev pub spells : List ℕ → List ℕ → Bool
-spells s word = same s word
+-- Document 02, c): "in either case, also mixed". Each of the 26 small letters, `a` (97) to `z` (122), reads as its capital, which stands 32 below it;
+-- every other byte reads as itself.
+unfoldable pub capital : ℕ → ℕ
+capital b = cond (leb 97 b && leb b 122) (b - 32) b
+
+abbrev pub capitals : List ℕ → List ℕ
+capitals s = map capital s
+
+-- The bytes spell the word, which is in capitals. "The tags T, P, E and the `g` of a variable stay fixed": those are no words.
+unfoldable pub spells : List ℕ → List ℕ → Bool
+spells s word = same (capitals s) word
 
 -- The place of the word in a list of words, counted from c.
 abbrev pub placeIn : ℕ → List (List ℕ) → List ℕ → Field

@@ -14,7 +14,7 @@ use Rattle.scheme.proofs.Order.{plain-lowest}
 use Rattle.scheme.proofs.Every.{every, every-at}
 use Rattle.model.specs.Lists.{bytes}
 use Rattle.model.specs.Number.{numberOf, decimal}
-use Rattle.model.specs.Word.{wordOf, qualifierOf, schemeOf, operationOf, qualifierWord}
+use Rattle.model.specs.Word.{capital, spells, wordOf, qualifierOf, schemeOf, operationOf, qualifierWord}
 use Rattle.model.specs.Line.{floor, given, choose, exactly, intLine, anyLine, arrowLine, paramLine, lamLine, appLine, opLine, varLine, numLine, encLine, typeLine, leafLine, termLine, lineOf}
 use Rattle.model.specs.Machine.{Machine, paramAt, firstFailing, typeRefusal, paramRefusal, termRefusal, settled, entered, added}
 use Rattle.model.specs.Typing.{Ty, Assignment}
@@ -30,7 +30,7 @@ use Rattle.starred.proofs.Refused.{refusal-number}
 
 -- What the adds of a program come to, with all that it rests on open to computing.
 unfoldable pub loadOf : List String → Load
-unfolding loadFrom added lineOf typeLine leafLine termLine intLine anyLine arrowLine paramLine lamLine appLine opLine varLine numLine encLine given choose exactly numberOf wordOf qualifierOf floor schemeOf operationOf entered settled firstFailing typeRefusal paramRefusal termRefusal
+unfolding loadFrom added lineOf typeLine leafLine termLine intLine anyLine arrowLine paramLine lamLine appLine opLine varLine numLine encLine given choose exactly numberOf capital spells wordOf qualifierOf floor schemeOf operationOf entered settled firstFailing typeRefusal paramRefusal termRefusal
 loadOf program = load (textOf program)
 
 -- The report is read from two typings with one qualifier for all variables and literals: one type for all type rows takes ANY as INT, the other as an arrow.
