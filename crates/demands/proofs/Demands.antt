@@ -4,8 +4,10 @@ use Prim.Native.Nat.{ℕ, _≤_, _<_}
 use mathlib.Core.Bool.{true}
 use mathlib.Core.List.{List, [], _∷_, _++_, map}
 use mathlib.Core.Path.{_≡_}
-use lib.ListN.{length, take, drop}
-use Rattle.model.specs.Lists.{contains}
+use lib.ListN.{length, getD, take, drop}
+use Rattle.model.specs.Lists.{contains, bytes}
+use Rattle.model.specs.Word.{capitals, wordOf, qualifierOf, qualifierWord}
+use Rattle.model.specs.Line.{field, lineOf}
 use Rattle.model.specs.Machine.{Machine, freshMachine, paramAt}
 use Rattle.model.specs.Closed.{Closed}
 use Rattle.model.specs.Typing.{Typable}
@@ -15,8 +17,11 @@ use Rattle.model.specs.Report.{report}
 use Rattle.model.specs.Session.{Call, add, redeclare, take-back, infer, Outcome, returning, Infers, Answers, adds, redeclares, takes-back, Session}
 use Rattle.model.specs.Text.{linesOf, Prints, Returns}
 use Rattle.model.specs.Script.{commandOf, Makes, Replies, Conversation, largest, Responds}
+use Rattle.model.specs.declared.Field.the-variants.{Value}
+use Rattle.model.specs.declared.Line.the-variants.{NoForm}
 use Rattle.model.proofs.Answers.{session-same}
 use Rattle.model.proofs.LongLines.{reply-front}
+use Rattle.line.proofs.RoundTrip.{word-exactly}
 use Rattle.table.specs.Lists.{lists}
 use Rattle.table.specs.Called.{Called}
 use Rattle.table.specs.declared.Table.{Table}
@@ -31,8 +36,10 @@ use Rattle.demands.specs.Refusals.{HasAnswer, RefusedExactly}
 use Rattle.demands.specs.Standing.{standing}
 use Rattle.demands.specs.Floors.{SomeMeetsFloors, GreatestMeetsFloors, GreatestMissesFloor}
 use Rattle.demands.specs.Completion.{ReportsTyping, ReportsAboveFloors}
-use Rattle.demands.specs.Replacements.{callsOf}
-use Rattle.demands.specs.Scripts.{OneSession, commandFor, Spelled, unspelledNumbers, scriptOf, answersOf, AllAlike}
+use Rattle.demands.specs.Replacements.{callsOf, outcomesOf, reportIn}
+use Rattle.demands.specs.InTurn.{InTurn}
+use Rattle.demands.specs.Scripts.{OneSession, commandFor, Spelled, unspelledNumbers, scriptOf, answersOf, Alike}
+use Rattle.demands.specs.EitherCase.{SameButCase, SameCallButCase}
 use Rattle.demands.proofs.Exactly.{refused-exactly, answers-zero}
 use Rattle.demands.proofs.Standing.{session-standing}
 use Rattle.demands.proofs.FloorsStay.{floor-stays}
@@ -40,6 +47,8 @@ use Rattle.demands.proofs.Completion.{reports-typing, answered-reports}
 use Rattle.demands.proofs.Floors.{accepted-greatest, missed-greatest, above-floors, accepted-some, missed-every}
 use Rattle.demands.proofs.LeftOut.{unspelled-refused}
 use Rattle.demands.proofs.Scripts.{one-session, responds-same, spelled-makes, script-lines, script-alike, list-converses}
+use Rattle.demands.proofs.EitherCase.{lines-alike, session-alike, prints-alike, returns-alike, other-tag, variable-letter}
+use Rattle.demands.proofs.ReportCapitals.{reported-capitals}
 
 -- Demand 1. "Refused are: .. Each has its number in document 01, and a refused call leaves the table and the lent bytes as it found them.
 -- Accepted is everything else".
@@ -184,7 +193,7 @@ pub lines-of-script : {calls : List Call} → All Spelled calls → linesOf (scr
 lines-of-script = script-lines
 
 -- So every conversation with the script of a list makes these calls in turn, each the same but for the bytes of an infer's buffer.
-pub every-list-is-a-script : {calls : List Call} {answers : List ℕ} → All Spelled calls → (c : Conversation (scriptOf calls) answers) → AllAlike calls (callsOf (c .trace))
+pub every-list-is-a-script : {calls : List Call} {answers : List ℕ} → All Spelled calls → (c : Conversation (scriptOf calls) answers) → InTurn Alike calls (callsOf (c .trace))
 every-list-is-a-script = script-alike
 
 -- And every list of demand 3, with these buffers and what it returned, is a conversation with its script.
@@ -196,3 +205,34 @@ every-list-converses = list-converses
 pub left-out-refused : (before rest : List (Call × Outcome)) (call : Call) (o : Outcome) → Session freshMachine (before ++ ((call, o) ∷ rest)) → ¬ Spelled call →
     (contains (o .number) (unspelledNumbers call) ≡ true) × (standing freshMachine (before ++ ((call, o) ∷ [])) ≡ standing freshMachine before)
 left-out-refused = unspelled-refused
+
+-- Document 02, c). "The reader of words takes qualifier, kind and operation words in either case, also mixed": a field is the word of a code exactly
+-- where its capitals are the word that a report has for the code.
+pub words-in-either-case : (s : List ℕ) (c : ℕ) → (wordOf s ≡ Value c → capitals s ≡ qualifierWord c) × (c < 7 → capitals s ≡ qualifierWord c → wordOf s ≡ Value c)
+words-in-either-case = word-exactly
+
+-- "Every line form rests on this reader": lines that differ in the case of words alone enter the same, or both have none of the forms.
+pub lines-in-either-case : {s t : List ℕ} → SameButCase s t → lineOf s ≡ lineOf t
+lines-in-either-case = lines-alike
+
+-- So two lists of calls that differ in nothing else have the same numbers, rows, lengths and bytes, and so have two texts.
+pub lists-in-either-case : {m : Machine} {trace trace′ : List (Call × Outcome)} →
+    InTurn SameCallButCase (callsOf trace) (callsOf trace′) → Session m trace → Session m trace′ → outcomesOf trace ≡ outcomesOf trace′
+lists-in-either-case = session-alike _ _
+
+pub printed-in-either-case : {text text′ out : List ℕ} → InTurn SameButCase (linesOf text) (linesOf text′) → Prints text out → Prints text′ out
+printed-in-either-case alike = prints-alike alike
+
+pub returned-in-either-case : {text text′ buffer b : List ℕ} {n : ℕ} → InTurn SameButCase (linesOf text) (linesOf text′) → Returns text buffer n b → Returns text′ buffer n b
+returned-in-either-case alike = returns-alike alike
+
+-- "The tags T, P, E and the `g` of a variable stay fixed."
+pub tags-fixed : (s : List ℕ) → ¬ (field s 0 ≡ bytes "T") → ¬ (field s 0 ≡ bytes "P") → ¬ (field s 0 ≡ bytes "E") → lineOf s ≡ NoForm
+tags-fixed = other-tag
+
+pub variable-letter-fixed : (s : List ℕ) (c : ℕ) → qualifierOf s ≡ Value c → 7 ≤ c → getD s 0 0 ≡ 103
+variable-letter-fixed = variable-letter
+
+-- "Reports are written in capitals as before."
+pub reports-in-capitals : {m : Machine} {buffer : List ℕ} {o : Outcome} → Infers m buffer o → o .number ≡ 0 → capitals (reportIn o) ≡ reportIn o
+reports-in-capitals = reported-capitals

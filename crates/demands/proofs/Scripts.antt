@@ -18,7 +18,8 @@ use Rattle.model.proofs.Scripts.{conversation-same}
 use Rattle.line.proofs.RoundTrip.{number-of-decimal}
 use Rattle.starred.specs.Starred.{All}
 use Rattle.demands.specs.Replacements.{callsOf}
-use Rattle.demands.specs.Scripts.{OneSession, commandFor, Spelled, scriptOf, answersOf, Alike, same-call, both-infer, AllAlike}
+use Rattle.demands.specs.InTurn.{InTurn}
+use Rattle.demands.specs.Scripts.{OneSession, commandFor, Spelled, scriptOf, answersOf, Alike, same-call, both-infer}
 use Rattle.demands.proofs.Without.{first-other, rest-without, without-both, before-all, decimal-without}
 
 module _ {script output : List ℕ} where
@@ -103,12 +104,12 @@ makes-some Makes.takes-back e = let z : _≡_ {A = ℕ} 0 1 = cc in omega arith
 makes-some (Makes.infers long) e = let z : _≡_ {A = ℕ} 0 1 = cc in omega arith
 
 lines-alike : {calls : List Call} {trace : List (Call × Outcome)} {answers : List ℕ} →
-    All Spelled calls → Transcript (map commandFor calls) trace answers → AllAlike calls (callsOf trace)
-lines-alike All.[]ᴬ Transcript.end = AllAlike.none
-lines-alike (All._∷ᴬ_ {x = call} spelled more) (Transcript.calls makes rest) = AllAlike.next (makes-alike (spelled-makes call spelled) makes) (lines-alike more rest)
+    All Spelled calls → Transcript (map commandFor calls) trace answers → InTurn Alike calls (callsOf trace)
+lines-alike All.[]ᴬ Transcript.end = InTurn.none
+lines-alike (All._∷ᴬ_ {x = call} spelled more) (Transcript.calls makes rest) = InTurn.next (makes-alike (spelled-makes call spelled) makes) (lines-alike more rest)
 lines-alike (All._∷ᴬ_ {x = call} spelled more) (Transcript.passes e rest) = absurd (makes-some (spelled-makes call spelled) e)
 
-pub script-alike : {calls : List Call} {answers : List ℕ} → All Spelled calls → (c : Conversation (scriptOf calls) answers) → AllAlike calls (callsOf (c .trace))
+pub script-alike : {calls : List Call} {answers : List ℕ} → All Spelled calls → (c : Conversation (scriptOf calls) answers) → InTurn Alike calls (callsOf (c .trace))
 script-alike {answers = answers} spelled c =
     lines-alike spelled (subst (λ (lines : List (List ℕ)). Transcript lines (c .trace) answers) (script-lines spelled) (c .transcript))
 

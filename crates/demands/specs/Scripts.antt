@@ -60,8 +60,3 @@ answersOf ((call, o) ∷ rest) = answer call o ++ answersOf rest
 pub data Alike : Call → Call → Type 0 where
   same-call : {call : Call} → Alike call call
   both-infer : {buffer buffer′ : List ℕ} → 6280 ≤ length buffer → 6280 ≤ length buffer′ → Alike (infer buffer) (infer buffer′)
-
--- Two lists of calls that are alike in turn.
-pub data AllAlike : List Call → List Call → Type 0 where
-  none : AllAlike [] []
-  next : {call call′ : Call} {calls calls′ : List Call} → Alike call call′ → AllAlike calls calls′ → AllAlike (call ∷ calls) (call′ ∷ calls′)

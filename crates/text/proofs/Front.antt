@@ -80,13 +80,21 @@ decided (suc k) m n w left =
 pub load-front : (text : List ℕ) → load (take 25025 text) ≡ load text
 load-front text = decided 384 freshMachine 1 fresh-within (omega (arith, fresh-entries)) 25025 text (omega arith)
 
+-- What is printed and returned of a text rests on what its lines load as, and on nothing else of it.
+module _ {text text′ : List ℕ} (loads : load text ≡ load text′) where
+  pub prints-loaded : {out : List ℕ} → Prints text out → Prints text′ out
+  prints-loaded (Prints.refused-add e) = Prints.refused-add (sym loads ∙ e)
+  prints-loaded (Prints.refused-inference e j n) = Prints.refused-inference (sym loads ∙ e) j n
+  prints-loaded (Prints.reported e j) = Prints.reported (sym loads ∙ e) j
+
+  pub returns-loaded : {buffer b : List ℕ} {n : ℕ} → Returns text buffer n b → Returns text′ buffer n b
+  returns-loaded (Returns.short h) = Returns.short h
+  returns-loaded (Returns.refused-add h e) = Returns.refused-add h (sym loads ∙ e)
+  returns-loaded (Returns.refused-inference h e i n) = Returns.refused-inference h (sym loads ∙ e) i n
+  returns-loaded (Returns.reported h e i z) = Returns.reported h (sym loads ∙ e) i z
+
 pub prints-front : {text out : List ℕ} → Prints (take 25025 text) out → Prints text out
-prints-front {text} (Prints.refused-add e) = Prints.refused-add (sym (load-front text) ∙ e)
-prints-front {text} (Prints.refused-inference e j n) = Prints.refused-inference (sym (load-front text) ∙ e) j n
-prints-front {text} (Prints.reported e j) = Prints.reported (sym (load-front text) ∙ e) j
+prints-front {text} = prints-loaded (load-front text)
 
 pub returns-front : {text buffer b : List ℕ} {n : ℕ} → Returns (take 25025 text) buffer n b → Returns text buffer n b
-returns-front (Returns.short h) = Returns.short h
-returns-front {text} (Returns.refused-add h e) = Returns.refused-add h (sym (load-front text) ∙ e)
-returns-front {text} (Returns.refused-inference h e i n) = Returns.refused-inference h (sym (load-front text) ∙ e) i n
-returns-front {text} (Returns.reported h e i z) = Returns.reported h (sym (load-front text) ∙ e) i z
+returns-front {text} = returns-loaded (load-front text)
