@@ -10,7 +10,7 @@ enum status { ACCEPTED = 0, REFUSED = 1, NOT_RUN = 2 };
 static const char *words(unsigned number) {
     switch (number) {
     case PLACEMENT_NO_FORM:
-        return "the line is longer than 64 bytes or has none of the forms. Write it as docs/NUMBERS.md lists the forms.";
+        return "the line is longer than 64 bytes or has none of the forms that docs/NUMBERS.md lists. T, P and E are capitals, and the g of a variable is small.";
     case PLACEMENT_NOT_NEXT:
         return "the line's own number is not the next in its list. Number T, P and E lines from 0, each without a gap.";
     case PLACEMENT_LIST_FULL:

@@ -15,9 +15,9 @@ extern "C" {
 #endif
 
 /* The version of this header and of the archive that belongs to it. CHANGELOG.md lists the versions. */
-#define PLACEMENT_VERSION "3.0.0"
+#define PLACEMENT_VERSION "3.1.0"
 #define PLACEMENT_VERSION_MAJOR 3
-#define PLACEMENT_VERSION_MINOR 0
+#define PLACEMENT_VERSION_MINOR 1
 #define PLACEMENT_VERSION_PATCH 0
 
 /* A report buffer has at least this many bytes, and no report is longer. */
@@ -73,6 +73,9 @@ enum placement_refusal {
  * bytes beyond it are as they were. Refused: returns the number and the place as above, and the whole buffer is as it was. A short buffer
  * is refused before the text is looked at.
  *
+ * A line's words, such as ADD, INT or RAND, may be in capitals, in small letters or mixed; its tag T, P or E is a capital, and the g of a
+ * variable is small. The report has capitals, whatever the table has.
+ *
  * Line E,i of the report is the table's row i. A NUM row's word is the scheme under which the loader encrypts that literal before upload;
  * PLAIN leaves it in the open. The table's text has every literal in the open: do not upload it as it stands.
  *
@@ -98,7 +101,7 @@ uint32_t placement_report(const uint8_t *text, size_t text_length, uint8_t *repo
  *                      parameter's floor stays
  *   take-back          its number. Drops the last term row
  *   infer              the report, as placement_report writes it, or NO,number,row; for 24 NO,24,parameter
- *   any other line     ? and nothing is changed
+ *   any other line     ? and nothing is changed. Commands are in small letters
  *
  * Returns the length of all answers, at most SIZE_MAX. Where the buffer is long enough, they stand at its front, without a 0 at their end,
  * and the bytes beyond them are as they were. Where it is shorter, the whole buffer is as it was: call again with a buffer of that length.

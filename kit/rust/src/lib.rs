@@ -6,6 +6,7 @@
 //! ```
 //! let report = placement::report(b"E,0,ENC,AH,5\n").unwrap();
 //! assert_eq!(report.as_bytes(), b"OK,0,1\nE,0,AH,INT\n");
+//! assert_eq!(placement::report(b"E,0,enc,ah,5\n"), Ok(report));
 //!
 //! let refusal = placement::report(b"E,0,NUM,1\nE,1,APP,0,0\n").unwrap_err();
 //! assert_eq!(refusal.number, 7);
@@ -58,6 +59,9 @@ impl fmt::Display for Report {
 
 /// Finds the report of a table, whose lines are the text's, or why there is none.
 ///
+/// A line's words, such as ADD, INT or RAND, may be in capitals, in small letters or mixed; its tag T, P or E is a capital, and the g of a
+/// variable is small. The report has capitals, whatever the table has.
+///
 /// Line E,i of the report is the table's row i. A NUM row's word is the scheme under which the loader encrypts that literal before upload;
 /// PLAIN leaves it in the open. The table's text has every literal in the open: do not upload it as it stands.
 ///
@@ -71,7 +75,7 @@ pub fn report(text: &[u8]) -> Result<Report, Refusal> {
 
 /// Answers the commands of a script in turn, from a fresh table on: `add LINE`, `redeclare P CODE`, `take-back` and `infer`, one a line.
 ///
-/// The first three are answered by their number, 0 or a refusal's, an infer by the report or `NO,number,row` (`NO,24,parameter`), and any other
+/// Commands are in small letters. The first three are answered by their number, 0 or a refusal's, an infer by the report or `NO,number,row` (`NO,24,parameter`), and any other
 /// line by `?`; each answer ends in a line feed. kit/placement.h says more of each.
 ///
 /// The script is run twice, once for the length of all answers. Threads may call it at once; it takes as much stack as [`report`].

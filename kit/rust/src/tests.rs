@@ -5,6 +5,8 @@ use crate::refusal::taken_apart;
 use crate::{report, session, Place, Refusal};
 use std::thread;
 
+mod letters;
+
 const PROGRAM_A: &[u8] = b"T,0,ANY\nP,0,g0,0\nE,0,VAR,0\nE,1,VAR,0\nE,2,OP,ADD,0,1\nE,3,LAM,0,2\n";
 const REPORT_A: &[u8] =
     b"OK,1,4\nG,0,AH\nP,0,AH,INT\nE,0,AH,INT\nE,1,AH,INT\nE,2,AH,INT\nE,3,PLAIN,ARROW\n";
