@@ -15,9 +15,9 @@ extern "C" {
 #endif
 
 /* The version of this header and of the archive that belongs to it. CHANGELOG.md lists the versions. */
-#define PLACEMENT_VERSION "3.1.0"
-#define PLACEMENT_VERSION_MAJOR 3
-#define PLACEMENT_VERSION_MINOR 1
+#define PLACEMENT_VERSION "4.0.0"
+#define PLACEMENT_VERSION_MAJOR 4
+#define PLACEMENT_VERSION_MINOR 0
 #define PLACEMENT_VERSION_PATCH 0
 
 /* A report buffer has at least this many bytes, and no report is longer. */
@@ -74,10 +74,11 @@ enum placement_refusal {
  * is refused before the text is looked at.
  *
  * A line's words, such as ADD, INT or RAND, may be in capitals, in small letters or mixed; its tag T, P or E is a capital, and the g of a
- * variable is small. The report has capitals, whatever the table has.
+ * variable is small. The report has capitals, whatever the table has. The last line may lack its line feed.
  *
- * Line E,i of the report is the table's row i. A NUM row's word is the scheme under which the loader encrypts that literal before upload;
- * PLAIN leaves it in the open. The table's text has every literal in the open: do not upload it as it stands.
+ * Line E,i of the report is the table's row i. The word that the report has for a NUM row is the scheme under which the loader encrypts that
+ * literal before upload; PLAIN leaves it in the open. A loader that looks for NUM and ENC rows in the table has to know these words in
+ * either case, or it misses literals. The table's text has every literal in the open: do not upload it as it stands.
  *
  * text: any bytes, of any length. They are read and never changed.
  * report: the caller's buffer. Nothing of it, or of the text, is kept after the call.

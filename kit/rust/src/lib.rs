@@ -60,10 +60,11 @@ impl fmt::Display for Report {
 /// Finds the report of a table, whose lines are the text's, or why there is none.
 ///
 /// A line's words, such as ADD, INT or RAND, may be in capitals, in small letters or mixed; its tag T, P or E is a capital, and the g of a
-/// variable is small. The report has capitals, whatever the table has.
+/// variable is small. The report has capitals, whatever the table has. The last line may lack its line feed.
 ///
-/// Line E,i of the report is the table's row i. A NUM row's word is the scheme under which the loader encrypts that literal before upload;
-/// PLAIN leaves it in the open. The table's text has every literal in the open: do not upload it as it stands.
+/// Line E,i of the report is the table's row i. The word that the report has for a NUM row is the scheme under which the loader encrypts that
+/// literal before upload; PLAIN leaves it in the open. A loader that looks for NUM and ENC rows in the table has to know these words in
+/// either case, or it misses literals. The table's text has every literal in the open: do not upload it as it stands.
 ///
 /// Threads may call it at once. A call takes up to 128 KiB of stack, far less than a thread has by default.
 pub fn report(text: &[u8]) -> Result<Report, Refusal> {
@@ -75,8 +76,9 @@ pub fn report(text: &[u8]) -> Result<Report, Refusal> {
 
 /// Answers the commands of a script in turn, from a fresh table on: `add LINE`, `redeclare P CODE`, `take-back` and `infer`, one a line.
 ///
-/// Commands are in small letters. The first three are answered by their number, 0 or a refusal's, an infer by the report or `NO,number,row` (`NO,24,parameter`), and any other
-/// line by `?`; each answer ends in a line feed. kit/placement.h says more of each.
+/// Commands are in small letters; the words of an added line may be in either case. The first three are answered by their number, 0 or a
+/// refusal's, an infer by the report or `NO,number,row` (`NO,24,parameter`), and any other line by `?`; each answer ends in a line feed.
+/// kit/placement.h says more of each.
 ///
 /// The script is run twice, once for the length of all answers. Threads may call it at once; it takes as much stack as [`report`].
 pub fn session(script: &[u8]) -> Vec<u8> {

@@ -48,7 +48,10 @@ impl Refusal {
     /// What the refusal's number means.
     pub fn meaning(&self) -> &'static str {
         match self.number {
-            1 => "longer than 64 bytes, or none of the forms",
+            1 => {
+                "longer than 64 bytes, or none of the forms: \
+                 T, P and E are capitals, and the g of a variable is small"
+            }
             2 => "own number is not the next in its list",
             3 => "list full: 64 types, 64 parameters, 256 term rows",
             4 => "type row not declared before this line",
