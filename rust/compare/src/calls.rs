@@ -1,7 +1,7 @@
 //! Lists of the calls that change a table.
 
 use crate::well_formed::{random_form, random_text, Field};
-use second::generate::{self, damaged_line, Random};
+use second::generate::{self, damaged_line, in_any_case, Random};
 use second::Table;
 
 /// The greatest length of a line in a script, above that of the lines that are read.
@@ -111,7 +111,7 @@ fn fitting_call(random: &mut Random, table: &Table) -> Call {
     }
 }
 
-/// A line that fits the table, or nearly fits it.
+/// A line that fits the table, or nearly fits it, with its words in any case.
 fn fitting_line(random: &mut Random, table: &Table) -> Vec<u8> {
     let form = random_form(random);
     let next = match form.list {
@@ -127,7 +127,8 @@ fn fitting_line(random: &mut Random, table: &Table) -> Vec<u8> {
         Field::Row => recent_row(random, table.terms.len()).to_string(),
         _ => random_text(random, field),
     };
-    form.line(text).into_bytes()
+    let line = form.line(text);
+    in_any_case(random, line.as_bytes())
 }
 
 /// One of the last rows, which are mostly unused, or seldom the next one or an earlier one.

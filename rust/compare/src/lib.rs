@@ -14,5 +14,6 @@ pub mod sessions;
 pub mod slowest;
 pub mod texts;
 pub mod well_formed;
+pub mod words;
 
 pub use exported::{placement_report, placement_session, read_line, run_calls, session_lent};

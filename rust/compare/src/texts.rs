@@ -3,7 +3,8 @@
 use crate::calls::filling_lines;
 use crate::well_formed::random_line;
 use second::generate::{
-    any_bytes, opened, program_with_floors, text_of_table, Damage, Opening, Program, Random,
+    any_bytes, opened, program_with_floors, text_in_any_case, text_of_table, Damage, Opening,
+    Program, Random,
 };
 
 /// What a text is.
@@ -95,7 +96,7 @@ pub fn closed_text(random: &mut Random) -> Vec<u8> {
     match random.one_in(2) {
         true => program.text(),
         // Here the redeclarations stand in the lines, so that more programs have a typing.
-        false => text_of_table(&program.table()),
+        false => text_in_any_case(random, &text_of_table(&program.table())),
     }
 }
 

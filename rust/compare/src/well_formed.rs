@@ -1,6 +1,6 @@
 //! Lines of the ten forms, filled in with given or random fields.
 
-use second::generate::Random;
+use second::generate::{in_any_case, Random};
 use second::operation::Operation;
 use second::qualifier::{Qualifier, NAMED_VARIABLES};
 
@@ -25,6 +25,20 @@ pub enum Field {
     Scheme,
     /// An operation.
     Operation,
+}
+
+impl Field {
+    /// The words that may stand in this field.
+    pub fn words(self) -> Vec<&'static str> {
+        let qualifiers = Qualifier::ALL.map(Qualifier::word);
+        match self {
+            Field::Own | Field::TypeRow | Field::Parameter | Field::Row | Field::Number => vec![],
+            Field::Qualifier | Field::Floor => qualifiers.to_vec(),
+            // The first qualifier is PLAIN, which is no scheme.
+            Field::Scheme => qualifiers[1..].to_vec(),
+            Field::Operation => Operation::ALL.map(Operation::word).to_vec(),
+        }
+    }
 }
 
 /// A form of a line: the words before and after its own number, then its other fields.
@@ -75,6 +89,25 @@ impl Form {
         1 + self.fields.len()
     }
 
+    /// How many fields stand before the last ones: the list, the own number, and the word where there is one.
+    fn first_fields(&self) -> usize {
+        2 + usize::from(!self.word.is_empty())
+    }
+
+    /// How many fields the line has.
+    pub fn length(&self) -> usize {
+        self.first_fields() + self.fields.len()
+    }
+
+    /// The words that may stand in the line, each with the place of its field.
+    pub fn words(&self) -> Vec<(usize, &'static str)> {
+        let own = [self.word].into_iter().filter(|word| !word.is_empty()).map(|word| (2, word));
+        let open = (self.first_fields()..).zip(self.fields);
+        let others =
+            open.flat_map(|(place, field)| field.words().into_iter().map(move |it| (place, it)));
+        own.chain(others).collect()
+    }
+
     /// The line of this form with one given field, and the lowest text in all others.
     pub fn line_with(&self, position: usize, given: &str) -> String {
         let mut positions = 0..;
@@ -90,10 +123,11 @@ pub fn random_form(random: &mut Random) -> Form {
     ALL[random.below(ALL.len())]
 }
 
-/// A line of a random form with random fields, often at their limits.
+/// A line of a random form with random fields, often at their limits, and words in any case.
 pub fn random_line(random: &mut Random) -> Vec<u8> {
     let form = random_form(random);
-    form.line(|field| random_text(random, field)).into_bytes()
+    let line = form.line(|field| random_text(random, field));
+    in_any_case(random, line.as_bytes())
 }
 
 /// The first text that may stand in a field.
@@ -106,7 +140,7 @@ fn lowest(field: Field) -> &'static str {
     }
 }
 
-/// A random text that may stand in a field.
+/// A random text that may stand in a field; a word is in capitals.
 pub fn random_text(random: &mut Random, field: Field) -> String {
     match field {
         Field::Own | Field::TypeRow | Field::Parameter | Field::Row => {
@@ -116,9 +150,10 @@ pub fn random_text(random: &mut Random, field: Field) -> String {
         Field::Qualifier if random.one_in(2) => {
             format!("g{}", random.below(NAMED_VARIABLES.into()))
         }
-        Field::Qualifier | Field::Floor => Qualifier::ALL[random.below(7)].word().to_string(),
-        Field::Scheme => Qualifier::ALL[random.between(1, 6)].word().to_string(),
-        Field::Operation => Operation::ALL[random.below(5)].word().to_string(),
+        Field::Qualifier | Field::Floor | Field::Scheme | Field::Operation => {
+            let words = field.words();
+            words[random.below(words.len())].to_string()
+        }
     }
 }
 

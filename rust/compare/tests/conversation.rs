@@ -25,8 +25,8 @@ const SILENCE: Duration = Duration::from_millis(50);
 
 /// All four commands, and other lines, with the table in every state.
 const COMMANDS: [&str; 29] = [
-    "infer", "take-back", "redeclare 0 0", "add T,0,ANY", "add P,0,g0,0,ah", "add P,0,g0,0,AH",
-    "add P,1,g0,1", "add E,0,VAR,0", "add E,1,VAR,0", "add E,2,OP,ADD,0,1", "infer",
+    "infer", "take-back", "redeclare 0 0", "add T,0,any", "add P,0,G0,0,ah", "add P,0,g0,0,ah",
+    "add P,1,g0,1", "add E,0,VAR,0", "add E,1,Var,0", "add E,2,op,aDD,0,1", "infer",
     "add E,3,LAM,0,2", "infer", "redeclare 0 6", "infer", "redeclare 0 71", "", "redeclare 0 5",
     "infer", "take-back", "infer", "add", "add E,3,LAM,0,2", "infer", "redeclare 0 1", "infer",
     "redeclare 0 7", "infer", "take-back ",

@@ -2,9 +2,12 @@
 
 use compare::numbers::{numbers, Numbers, FORMS};
 use compare::read_line;
-use compare::well_formed::{self, random_line, Field};
+use compare::well_formed::{self, random_line, Field, Form};
+use compare::words::WordCounts;
+use second::counts::Counts;
 use second::generate::{
-    any_bytes, changed_line, damaged_line, program_with_floors, Random, WRONG_FLOORS,
+    any_bytes, changed_line, damaged_line, program_with_floors, spellings, LetterCase,
+    LetterDamage, Random, WRONG_FLOORS,
 };
 use second::line::read;
 use second::operation::Operation;
@@ -21,11 +24,12 @@ const BEFORE: u32 = 0xA5A5_5A5A;
 struct Tally([usize; FORMS]);
 
 impl Tally {
-    /// Compares the two readers on a line and counts its form.
-    fn compare(&mut self, line: &[u8]) {
+    /// Compares the two readers on a line and counts its form; gives its numbers.
+    fn compare(&mut self, line: &[u8]) -> Numbers {
         let expected = numbers(read(line));
         assert_eq!(proved(line), expected, "for the line {}", line.escape_ascii());
         self.0[expected[0] as usize] += 1;
+        expected
     }
 
     /// Asserts that each form, and none of them, was read so often.
@@ -60,6 +64,14 @@ fn compare_in_each_field(tally: &mut Tally, text: &str) {
     }
 }
 
+/// A line of a form with this field at a place, and the lowest text in all others.
+fn line_with_field(form: &Form, place: usize, field: &[u8]) -> Vec<u8> {
+    let line = form.line_with(0, "0");
+    let mut fields: Vec<&[u8]> = line.as_bytes().split(|&byte| byte == b',').collect();
+    fields[place] = field;
+    fields.join(&b',')
+}
+
 /// A line of each form with fields of several bytes.
 fn sample_lines() -> Vec<Vec<u8>> {
     let text = |field: Field| match field {
@@ -75,41 +87,163 @@ fn sample_lines() -> Vec<Vec<u8>> {
 
 #[test]
 fn each_form_has_its_numbers() {
-    assert_numbers("T,1,INT", [1, 1, 0, 0, 0, 0]);
-    assert_numbers("T,2,ANY", [2, 2, 0, 0, 0, 0]);
-    assert_numbers("T,3,ARROW,RAND,4,g5,6", [3, 3, 6, 4, 12, 6]);
-    assert_numbers("P,4,g63,5", [4, 4, 70, 5, 0, 0]);
-    assert_numbers("P,4,g63,5,RAND", [4, 4, 70, 5, 6, 0]);
-    assert_numbers("E,5,LAM,6,7", [5, 5, 6, 7, 0, 0]);
-    assert_numbers("E,6,APP,7,8", [6, 6, 7, 8, 0, 0]);
-    assert_numbers("E,7,OP,GT,8,9", [7, 7, 4, 8, 9, 0]);
-    assert_numbers("E,8,VAR,9", [8, 8, 9, 0, 0, 0]);
-    assert_numbers("E,9,NUM,4294967295", [9, 9, 4294967295, 0, 0, 0]);
-    assert_numbers("E,65535,ENC,FHE,11", [10, 65535, 1, 11, 0, 0]);
-    assert_numbers("", [0; 6]);
-    assert_numbers("E,0,ENC,PLAIN,1", [0; 6]);
+    let lines = [
+        ("T,1,INT", "T,1,int", [1, 1, 0, 0, 0, 0]),
+        ("T,2,ANY", "T,2,Any", [2, 2, 0, 0, 0, 0]),
+        ("T,3,ARROW,RAND,4,g5,6", "T,3,arrow,raND,4,g5,6", [3, 3, 6, 4, 12, 6]),
+        ("P,4,g63,5", "P,4,g63,5,plain", [4, 4, 70, 5, 0, 0]),
+        ("P,4,g63,5,RAND", "P,4,g63,5,rand", [4, 4, 70, 5, 6, 0]),
+        ("E,5,LAM,6,7", "E,5,lam,6,7", [5, 5, 6, 7, 0, 0]),
+        ("E,6,APP,7,8", "E,6,aPP,7,8", [6, 6, 7, 8, 0, 0]),
+        ("E,7,OP,GT,8,9", "E,7,op,gt,8,9", [7, 7, 4, 8, 9, 0]),
+        ("E,8,VAR,9", "E,8,vAr,9", [8, 8, 9, 0, 0, 0]),
+        ("E,9,NUM,4294967295", "E,9,num,4294967295", [9, 9, 4294967295, 0, 0, 0]),
+        ("E,65535,ENC,FHE,11", "E,65535,enc,fhe,11", [10, 65535, 1, 11, 0, 0]),
+    ];
+    for (capitals, other, expected) in lines {
+        assert_numbers(capitals, expected);
+        assert_numbers(other, expected);
+    }
+    for line in ["", "E,0,ENC,PLAIN,1", "E,0,enc,plain,1", "P,4,G63,5", "t,1,INT", "T,0,[nt"] {
+        assert_numbers(line, [0; 6]);
+    }
 }
 
 #[test]
 fn each_floor_has_its_number() {
     for (code, word) in (0..).zip(["PLAIN", "FHE", "OP", "DET", "MH", "AH", "RAND"]) {
         assert_numbers(&format!("P,1,AH,2,{word}"), [4, 1, 5, 2, code, 0]);
+        assert_numbers(&format!("P,1,ah,2,{}", word.to_lowercase()), [4, 1, 5, 2, code, 0]);
     }
     for wrong in WRONG_FLOORS {
         assert_numbers(&format!("P,1,AH,2,{wrong}"), [0; 6]);
     }
 }
 
-#[test]
-fn well_formed_lines_are_read_alike() {
-    let mut random = Random::seeded(1);
-    let mut tally = Tally::default();
+/// What stood in generated lines that were compared.
+#[derive(Debug, Default)]
+struct Written {
+    words: WordCounts,
+    /// The case of all words of a line together.
+    cases: Counts<Option<LetterCase>>,
+}
+
+/// Compares the two readers on well-formed lines, each changed by a function that leaves it well formed.
+fn compare_well_formed(seed: u64, change: impl Fn(&mut Random, Vec<u8>) -> Vec<u8>) -> Written {
+    let mut random = Random::seeded(seed);
+    let (mut tally, mut written) = (Tally::default(), Written::default());
     for _ in 0..GENERATED_LINES {
-        tally.compare(&random_line(&mut random));
+        let line = random_line(&mut random);
+        let line = change(&mut random, line);
+        tally.compare(&line);
+        written.words.take(&line);
+        written.cases.add(LetterCase::of_words_in(&line));
     }
+    println!("{written:?}");
     assert_eq!(tally.0[0], 0);
     tally.0[0] = GENERATED_LINES;
     tally.assert_each(GENERATED_LINES / 20);
+    written
+}
+
+#[test]
+fn well_formed_lines_are_read_alike() {
+    let written = compare_well_formed(1, |_, line| line);
+    written.words.assert_each(GENERATED_LINES / 2_000);
+    written.cases.assert_each(LetterCase::ALL.map(Some), GENERATED_LINES / 5);
+}
+
+#[test]
+fn lines_in_mixed_case_are_read_alike() {
+    let written = compare_well_formed(11, |random, line| LetterCase::Mixed.of_line(random, &line));
+    // Here a word is in one case only where all its letters are so by chance.
+    written.words.assert_each(GENERATED_LINES / 20_000);
+    written.cases.assert_each([Some(LetterCase::Mixed)], GENERATED_LINES / 2);
+}
+
+#[test]
+fn each_spelling_of_each_word_is_read_alike() {
+    let (mut tally, mut words) = (Tally::default(), WordCounts::default());
+    for form in well_formed::ALL {
+        for (place, word) in form.words() {
+            for spelling in spellings(word) {
+                let line = line_with_field(&form, place, &spelling);
+                assert_ne!(tally.compare(&line), [0; 6], "for {}", line.escape_ascii());
+                words.take(&line);
+            }
+        }
+    }
+    words.assert_each(1);
+}
+
+#[test]
+fn each_byte_of_each_word_is_read_alike() {
+    let (mut tally, mut words) = (Tally::default(), WordCounts::default());
+    for form in well_formed::ALL {
+        for (place, word) in form.words() {
+            for spelling in [word.to_string(), word.to_ascii_lowercase()] {
+                for position in 0..word.len() {
+                    for byte in 0..=255 {
+                        let mut field = spelling.as_bytes().to_vec();
+                        field[position] = byte;
+                        let line = line_with_field(&form, place, &field);
+                        if tally.compare(&line) != [0; 6] {
+                            words.take(&line);
+                        }
+                    }
+                }
+            }
+        }
+    }
+    words.assert_each(2);
+    tally.assert_each(12);
+    assert!(tally.0[0] > 80_000, "{} lines were not read only", tally.0[0]);
+}
+
+#[test]
+fn damaged_letters_are_read_alike() {
+    let mut random = Random::seeded(9);
+    let mut tally = Tally::default();
+    let mut counts = Counts::default();
+    for _ in 0..GENERATED_LINES {
+        let line = random_line(&mut random);
+        let form = numbers(read(&line))[0];
+        let damage = LetterDamage::ALL[random.below(LetterDamage::ALL.len())];
+        if let Some(damaged) = damage.of_line(&mut random, &line) {
+            counts.add((damage, form, tally.compare(&damaged) != [0; 6]));
+        }
+    }
+    println!("{counts:?}");
+    for form in 1..FORMS as u32 {
+        // Only an arrow and a parameter have variables.
+        let occurs = |it: &LetterDamage| *it != LetterDamage::Variable || [3, 4].contains(&form);
+        let refused = LetterDamage::ALL.into_iter().filter(occurs).map(|it| (it, form, false));
+        counts.assert_each(refused, GENERATED_LINES / 200);
+        // Of all bytes only the letters of words have two cases.
+        counts.assert_each([(LetterDamage::CaseBit, form, true)], GENERATED_LINES / 500);
+    }
+    let mut read = counts.0.keys().filter(|(_, _, is_read)| *is_read);
+    assert!(read.all(|&(damage, _, _)| damage == LetterDamage::CaseBit), "{counts:?}");
+}
+
+#[test]
+fn the_case_of_words_changes_no_number() {
+    let mut random = Random::seeded(10);
+    let (mut tally, mut changed) = (Tally::default(), 0);
+    for _ in 0..GENERATED_LINES / 4 {
+        let mut line = random_line(&mut random);
+        for _ in 0..random.below(3) {
+            line = damaged_line(&mut random, &line);
+        }
+        let expected = tally.compare(&line);
+        for case in LetterCase::ALL {
+            let written = case.of_line(&mut random, &line);
+            assert_eq!(tally.compare(&written), expected, "for {}", written.escape_ascii());
+            changed += usize::from(written != line);
+        }
+    }
+    tally.assert_each(GENERATED_LINES / 100);
+    assert!(changed > GENERATED_LINES / 4, "{changed} lines were in another case only");
 }
 
 #[test]

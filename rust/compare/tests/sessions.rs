@@ -4,9 +4,10 @@ use compare::buffers::{
     assert_bytes, assert_same, filled_buffer, inner, random_buffer, shown, MARGIN,
 };
 use compare::sessions::{adding, random_script, Kind};
+use compare::words::WordCounts;
 use compare::{placement_session, session_lent};
 use second::counts::Counts;
-use second::generate::{deep, text_of_lines, NumberCounts, Place, Random};
+use second::generate::{deep, text_of_lines, LetterCase, NumberCounts, Place, Random};
 use second::place::lines;
 use second::qualifier::Qualifier;
 use second::session::{answer, session, written, Command};
@@ -235,6 +236,8 @@ struct Tally {
     changes: Counts<Change>,
     /// The NUM rows of the tables after the last line.
     numbers: NumberCounts,
+    /// The words of lines that were added.
+    words: WordCounts,
 }
 
 impl Tally {
@@ -247,6 +250,9 @@ impl Tally {
             let now = answer(&mut table, line);
             let (word, number) = (word(line), number(&now));
             self.answers.add(format!("{word} {number}"));
+            if let (Some(Command::Add(added)), 0) = (Command::read(line), number) {
+                self.words.take(added);
+            }
             match word {
                 "redeclare" => since.redeclared |= number == 0,
                 "add" => since.added |= number == 0,
@@ -401,10 +407,32 @@ fn scripts_of_each_kind_are_answered_alike() {
     tally.changes.assert_each([Change::OtherReportAfterRedeclare], SCRIPTS / 4);
     let floors = [Change::FloorMissedAfterRedeclare, Change::FloorMetAfterRedeclare];
     tally.changes.assert_each(floors, SCRIPTS / 10);
-    println!("{:?}", tally.numbers);
+    println!("{:?}\n{:?}", tally.numbers, tally.words);
+    tally.words.assert_each(SCRIPTS / 400);
     tally.numbers.places.assert_each(Place::all(), SCRIPTS / 100);
     tally.numbers.words.assert_each(Qualifier::ALL.map(Qualifier::word), SCRIPTS / 100);
     tally.numbers.different_words.assert_each(2..=3, SCRIPTS / 100);
+}
+
+#[test]
+fn the_case_of_words_changes_no_answer() {
+    let mut random = Random::seeded(9);
+    let (mut kinds, mut changed) = (Counts::default(), 0);
+    for _ in 0..SCRIPTS / 12 {
+        let (kind, script) = random_script(&mut random);
+        let capitals = LetterCase::Capitals.of_text(&mut random, &script);
+        let answers = asked(placement_session, &capitals);
+        for case in LetterCase::ALL {
+            let written = case.of_text(&mut random, &script);
+            assert_bytes(&session(&written), &answers, &shown(&written));
+            assert_written(&mut random, &written, &answers, answers.len());
+            changed += usize::from(written != capitals);
+        }
+        kinds.add(kind);
+    }
+    println!("{:?}\n{changed}", kinds.0);
+    kinds.assert_each(Kind::ALL, SCRIPTS / 300);
+    assert!(changed > SCRIPTS / 12, "{changed} scripts were in another case only");
 }
 
 #[test]

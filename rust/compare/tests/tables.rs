@@ -3,6 +3,7 @@
 use compare::calls::{filling_lines, fitting_calls, program_calls, Call, LONGEST_LINE};
 use compare::run_calls;
 use compare::script::{entries, script, sizes, ALL_ENTRIES_BYTES, CALL_BYTES, ENTRY_BYTES};
+use compare::words::WordCounts;
 use second::generate::Random;
 use second::Table;
 use std::io::Write;
@@ -67,6 +68,8 @@ struct Tally {
     numbers: [usize; 13],
     /// How often a parameter had each floor after the last call.
     floors: [usize; 7],
+    /// The words of lines that were added.
+    words: WordCounts,
 }
 
 impl Tally {
@@ -74,8 +77,11 @@ impl Tally {
     fn compare(&mut self, random: &mut Random, calls: &[Call]) {
         let expected = reference(calls);
         assert_same(&proved(&script(random, calls)), &expected, calls);
-        for &number in &expected.numbers {
+        for (&number, call) in expected.numbers.iter().zip(calls) {
             self.numbers[usize::from(number)] += 1;
+            if let (0, Call::Add(line)) = (number, call) {
+                self.words.take(line);
+            }
         }
         for floor in floors(&expected) {
             self.floors[usize::from(floor)] += 1;
@@ -129,6 +135,11 @@ fn each_entry_has_its_bytes() {
     assert_entry(params, 65, [1, 5, 0, 0, 0, 0, 0, 0, 0, 0]);
     assert_entry(params, 66, [1, 70, 1, 0, 6, 0, 0, 0, 0, 0]);
     assert_entry(params, 67, [1, 1, 0, 0, 4, 0, 0, 0, 0, 0]);
+    let small = "T,0,int T,1,arrow,rand,0,g63,0 P,0,fhe,1,mh E,0,enc,op,7 E,1,num,7 E,2,op,gt,0,1";
+    assert_entry(small, 1, [3, 6, 0, 0, 70, 0, 0, 0, 0, 0]);
+    assert_entry(small, 64, [1, 1, 1, 0, 4, 0, 0, 0, 0, 0]);
+    assert_entry(small, 128, [6, 2, 7, 0, 0, 0, 0, 0, 0, 0]);
+    assert_entry(small, 130, [3, 4, 0, 0, 1, 0, 0, 0, 0, 0]);
     let terms = "T,0,INT P,0,AH,0 E,0,VAR,0 E,1,LAM,0,0 E,2,NUM,67305985 E,3,ENC,MH,4294967295 \
                  E,4,OP,GT,2,3 E,5,APP,1,4";
     assert_entry(terms, 128, [4, 0, 0, 0, 0, 0, 0, 0, 0, 0]);
@@ -150,6 +161,8 @@ fn calls_that_build_programs_are_answered_alike() {
     }
     tally.assert_each(&[0, 1, 2, 4, 5, 6, 7, 8, 12], 500);
     tally.assert_each_floor(1_000);
+    println!("{:?}", tally.words);
+    tally.words.assert_each(SHORT_LISTS / 400);
 }
 
 #[test]
@@ -175,6 +188,8 @@ fn calls_that_nearly_fit_are_answered_alike() {
     }
     tally.assert_each(&[0, 1, 2, 4, 5, 6, 7, 8, 9, 12], 500);
     tally.assert_each_floor(1_000);
+    println!("{:?}", tally.words);
+    tally.words.assert_each(SHORT_LISTS / 100);
 }
 
 #[test]

@@ -5,11 +5,12 @@ use compare::calls::filling_lines;
 use compare::placement_report;
 use compare::slowest::Slowest;
 use compare::texts::{closed_text, large_texts, random_text, Kind};
+use compare::words::WordCounts;
 use second::counts::Counts;
 use second::entry;
 use second::generate::{
     chain, deep, doubling, possible_words, text_of_lines, text_with_floors, Damage, Floors,
-    NumberCounts, Partner, Place, Random,
+    LetterCase, NumberCounts, Partner, Place, Random,
 };
 use second::operation::Operation;
 use second::place::lines;
@@ -285,6 +286,9 @@ fn texts_of_each_kind_are_answered_alike() {
     for kind in [Kind::Closed, Kind::NoLastLineFeed, Kind::Damaged(Damage::FieldChanged)] {
         by_kind.assert_each(VERDICTS.map(|number| (kind, number)), TEXTS / 500);
     }
+    // A word may be in the other case, a tag and the g of a variable may not.
+    let case_changed = Kind::Damaged(Damage::CaseChanged);
+    by_kind.assert_each([0, 1].map(|number| (case_changed, number)), TEXTS / 500);
     for kind in Kind::all() {
         if let Kind::Open(_) = kind {
             let open = by_kind.of(&(kind, 10));
@@ -298,6 +302,37 @@ fn texts_of_each_kind_are_answered_alike() {
     assert!(parameters > 40, "{parameters} parameters were named only");
     tally.assert_each_word(TEXTS / 7_000);
     tally.finish(&format!("{TEXTS} texts"));
+}
+
+#[test]
+fn the_case_of_words_changes_no_answer() {
+    let mut random = Random::seeded(6);
+    let mut tally = Tally::default();
+    let (mut kinds, mut changed) = (Counts::default(), 0);
+    for _ in 0..SPECIAL_TABLES {
+        let (kind, text) = random_text(&mut random);
+        let about = format!("{kind:?}");
+        let capitals = LetterCase::Capitals.of_text(&mut random, &text);
+        let expected = answer(&capitals);
+        for case in LetterCase::ALL {
+            let written = case.of_text(&mut random, &text);
+            assert!(answer(&written) == expected, "for {about}, {}", shown(&written));
+            let returned = tally.compare(&mut random, &about, &written, Room::Exact);
+            assert_eq!(returned, expected.0, "for {about}, {}", shown(&written));
+            changed += usize::from(written != capitals);
+        }
+        kinds.add(kind);
+    }
+    println!("{:?}\n{:?}\n{changed}", kinds.0, tally.answers.0);
+    kinds.assert_each(Kind::all(), SPECIAL_TABLES / 200);
+    tally.answers.assert_each([0, 1, 2, 10, 21, 22, 23, 24], SPECIAL_TABLES / 50);
+    assert!(changed > SPECIAL_TABLES, "{changed} texts were in another case only");
+}
+
+/// What the C entry returns for a text, with the buffer and its margins after the call.
+fn answer(text: &[u8]) -> (u32, Vec<u8>) {
+    let mut bytes = filled_buffer(0xA5, LONGEST_REPORT);
+    (placement_report(text, inner(&mut bytes)), bytes)
 }
 
 /// Something that can be seen in a text, with the test for it.
@@ -325,7 +360,7 @@ fn tables_of_each_size_are_answered_alike() {
     let mut random = Random::seeded(2);
     let mut tally = Tally::default();
     let (mut sizes, mut floors) = (Counts::default(), Counts::default());
-    let mut numbers = NumberCounts::default();
+    let (mut numbers, mut words) = (NumberCounts::default(), WordCounts::default());
     for _ in 0..TABLES {
         let text = closed_text(&mut random);
         let table = table(&text);
@@ -333,9 +368,10 @@ fn tables_of_each_size_are_answered_alike() {
         sizes.add(table.terms.len());
         floors.add(Floors::of(&table));
         numbers.take(&table);
+        words.take_text(&text);
         tally.compare(&mut random, "a closed table", &text, Room::Exact);
     }
-    println!("{:?}\n{numbers:?}", floors.0);
+    println!("{:?}\n{numbers:?}\n{words:?}", floors.0);
     sizes.assert_each(1..=Table::TERM_LIMIT, 5);
     floors.assert_each(Floors::ALL, TABLES / 50);
     floors.assert_each([Floors::Plain, Floors::NoTyping, Floors::Met], TABLES / 8);
@@ -347,6 +383,7 @@ fn tables_of_each_size_are_answered_alike() {
     numbers.words.assert_each(Qualifier::ALL.map(Qualifier::word), TABLES / 20);
     numbers.operand_words.assert_each(possible_words(), TABLES / 600);
     numbers.different_words.assert_each(2..=4, TABLES / 100);
+    words.assert_each(TABLES / 300);
     tally.finish(&format!("{TABLES} closed tables"));
 }
 

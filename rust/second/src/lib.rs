@@ -19,6 +19,7 @@ pub mod solution;
 pub mod table;
 pub mod to_try;
 pub mod typing;
+pub mod word;
 
 pub use place::{entry, place};
 pub use rows::Entry;

@@ -3,6 +3,7 @@
 use crate::operation::Operation;
 use crate::qualifier::{Qualifier, FIRST_VARIABLE_CODE, NAMED_VARIABLES};
 use crate::rows::{Entry, Parameter, QualifiedRow, Term, TypeRow};
+use crate::word::capitals;
 
 /// The greatest length of a line, without its line feed.
 pub const LONGEST_LINE: usize = 64;
@@ -13,6 +14,7 @@ pub fn read(line: &[u8]) -> Option<Entry> {
         return None;
     }
     let fields: Vec<&[u8]> = line.split(|&byte| byte == b',').collect();
+    // The tags are no words: they are capitals only.
     match *fields.as_slice() {
         [b"T", own, ref rest @ ..] => Some(Entry::T(small(own)?, type_row(rest)?)),
         [b"P", own, ref rest @ ..] => Some(Entry::P(small(own)?, parameter(rest)?)),
@@ -23,10 +25,11 @@ pub fn read(line: &[u8]) -> Option<Entry> {
 
 /// Reads the fields of a type row after its own number.
 fn type_row(fields: &[&[u8]]) -> Option<TypeRow> {
-    match *fields {
-        [b"INT"] => Some(TypeRow::Int),
-        [b"ANY"] => Some(TypeRow::Any),
-        [b"ARROW", from, argument, to, result] => Some(TypeRow::Arrow {
+    let (kind, rest) = fields.split_first()?;
+    match (&capitals(kind)[..], rest) {
+        (b"INT", []) => Some(TypeRow::Int),
+        (b"ANY", []) => Some(TypeRow::Any),
+        (b"ARROW", [from, argument, to, result]) => Some(TypeRow::Arrow {
             argument: qualified_row(from, argument)?,
             result: qualified_row(to, result)?,
         }),
@@ -46,21 +49,22 @@ fn parameter(fields: &[&[u8]]) -> Option<Parameter> {
 
 /// Reads the fields of a term row after its own number.
 fn term(fields: &[&[u8]]) -> Option<Term> {
-    match *fields {
-        [b"LAM", parameter, body] => {
+    let (kind, rest) = fields.split_first()?;
+    match (&capitals(kind)[..], rest) {
+        (b"LAM", [parameter, body]) => {
             Some(Term::Lambda { parameter: small(parameter)?, body: small(body)? })
         }
-        [b"APP", function, argument] => {
+        (b"APP", [function, argument]) => {
             Some(Term::Apply { function: small(function)?, argument: small(argument)? })
         }
-        [b"OP", operation, left, right] => Some(Term::Operate {
+        (b"OP", [operation, left, right]) => Some(Term::Operate {
             operation: Operation::of_word(operation)?,
             left: small(left)?,
             right: small(right)?,
         }),
-        [b"VAR", parameter] => Some(Term::Variable { parameter: small(parameter)? }),
-        [b"NUM", value] => Some(Term::Number { value: number(value)? }),
-        [b"ENC", scheme, value] => {
+        (b"VAR", [parameter]) => Some(Term::Variable { parameter: small(parameter)? }),
+        (b"NUM", [value]) => Some(Term::Number { value: number(value)? }),
+        (b"ENC", [scheme, value]) => {
             Some(Term::Encrypted { scheme: self::scheme(scheme)?, value: number(value)? })
         }
         _ => None,
@@ -72,7 +76,7 @@ fn qualified_row(qualifier: &[u8], row: &[u8]) -> Option<QualifiedRow> {
     Some(QualifiedRow { qualifier: qualifier_code(qualifier)?, type_row: small(row)? })
 }
 
-/// Reads a qualifier word, or a named variable `g0` to `g63`, into its code.
+/// Reads a qualifier word, or a named variable `g0` to `g63`, whose `g` is small, into its code.
 fn qualifier_code(field: &[u8]) -> Option<u8> {
     if let Some(qualifier) = Qualifier::of_word(field) {
         return Some(qualifier.code());

@@ -1,6 +1,7 @@
 //! The five operations, the highest scheme of each, and the qualifier of its result.
 
 use crate::qualifier::Qualifier;
+use crate::word::capitals;
 
 /// An operation; its code is its position in this list.
 #[derive(Clone, Copy, Debug, PartialEq, Eq, PartialOrd, Ord, Hash)]
@@ -27,7 +28,7 @@ impl Operation {
         self as u8
     }
 
-    /// The word that stands for this operation in a line.
+    /// The word that names this operation.
     pub fn word(self) -> &'static str {
         match self {
             Operation::Add => "ADD",
@@ -38,10 +39,10 @@ impl Operation {
         }
     }
 
-    /// The operation that this word stands for, if any.
-    pub fn of_word(word: &[u8]) -> Option<Operation> {
-        let mut all = Self::ALL.into_iter();
-        all.find(|operation| operation.word().as_bytes() == word)
+    /// The operation whose word a field spells, if any.
+    pub fn of_word(field: &[u8]) -> Option<Operation> {
+        let word = capitals(field);
+        Self::ALL.into_iter().find(|operation| operation.word().as_bytes() == word)
     }
 
     /// The highest scheme that supports this operation.

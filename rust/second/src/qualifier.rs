@@ -1,5 +1,7 @@
 //! The seven qualifiers, their order, and greatest lower bounds derived from the order.
 
+use crate::word::capitals;
+
 /// A qualifier; its code is its position in this list.
 #[derive(Clone, Copy, Debug, PartialEq, Eq, Hash)]
 pub enum Qualifier {
@@ -56,7 +58,7 @@ impl Qualifier {
         self as u8
     }
 
-    /// The word that stands for this qualifier in lines and reports.
+    /// The word that names this qualifier, as reports have it.
     pub fn word(self) -> &'static str {
         match self {
             Plain => "PLAIN",
@@ -69,10 +71,10 @@ impl Qualifier {
         }
     }
 
-    /// The qualifier that this word stands for, if any.
-    pub fn of_word(word: &[u8]) -> Option<Qualifier> {
-        let mut all = Self::ALL.into_iter();
-        all.find(|qualifier| qualifier.word().as_bytes() == word)
+    /// The qualifier whose word a field spells, if any.
+    pub fn of_word(field: &[u8]) -> Option<Qualifier> {
+        let word = capitals(field);
+        Self::ALL.into_iter().find(|qualifier| qualifier.word().as_bytes() == word)
     }
 }
 

@@ -1,4 +1,4 @@
-//! The programs to try of document 01 under the rule for NUM of document 02, and some about floors and literals, each with its whole output worked out from the rules.
+//! The programs to try of document 01 under the rule for NUM of document 02, and some about floors, literals and words in small letters, each with its whole output worked out from the rules.
 
 use crate::generate::text_of_lines;
 
@@ -47,6 +47,8 @@ pub fn all() -> Vec<Try> {
     all.extend(with_several_literals());
     all.extend(with_applied_literals());
     all.extend(with_literals_for_functions());
+    all.extend(with_small_letters());
+    all.extend(with_letters_in_the_wrong_case());
     all
 }
 
@@ -317,5 +319,59 @@ fn with_literals_for_functions() -> Vec<Try> {
             "NO,21,3",
             21_003,
         ),
+    ]
+}
+
+/// Programs with words in small letters and in both cases.
+fn with_small_letters() -> Vec<Try> {
+    vec![
+        Try::accepted(
+            "A in small letters",
+            "T,0,any P,0,g0,0 E,0,var,0 E,1,var,0 E,2,op,add,0,1 E,3,lam,0,2",
+            SUM_REPORT,
+        ),
+        Try::accepted(
+            "A in both cases",
+            "T,0,Any P,0,g0,0 E,0,VaR,0 E,1,vAr,0 E,2,oP,aDD,0,1 E,3,Lam,0,2",
+            SUM_REPORT,
+        ),
+        Try::accepted(
+            "x > NUM in small letters",
+            "T,0,int P,0,g0,0,op E,0,var,0 E,1,num,64 E,2,op,gt,0,1 E,3,lam,0,2",
+            "OK,1,4 G,0,OP P,0,OP,INT E,0,OP,INT E,1,OP,INT E,2,PLAIN,INT E,3,PLAIN,ARROW",
+        ),
+        Try::accepted(
+            "an arrow, applied to an encrypted number, in small letters",
+            "T,0,int T,1,arrow,ah,0,plain,0 P,0,g0,1,det
+             E,0,var,0 E,1,enc,ah,5 E,2,app,0,1 E,3,lam,0,2",
+            "OK,1,4 G,0,RAND P,0,RAND,ARROW
+             E,0,RAND,ARROW E,1,AH,INT E,2,PLAIN,INT E,3,PLAIN,ARROW",
+        ),
+        Try::refused(
+            "x declared op with the floor det in small letters",
+            "T,0,int P,0,op,0,det E,0,var,0 E,1,lam,0,0",
+            "NO,24,0",
+            24_000,
+        ),
+        Try::refused(
+            "x declared rand in small letters, x + x",
+            "T,0,any P,0,rand,0 E,0,var,0 E,1,var,0 E,2,op,add,0,1 E,3,lam,0,2",
+            "NO,23,2",
+            23_002,
+        ),
+    ]
+}
+
+/// Lines that are refused: a tag or the `g` of a variable in the other case, PLAIN as a scheme, and bytes that are no letters.
+fn with_letters_in_the_wrong_case() -> Vec<Try> {
+    vec![
+        Try::refused("a small t", "t,0,INT", "X,1,1", 1_001),
+        Try::refused("a small p", "T,0,INT p,0,AH,0", "X,1,2", 1_002),
+        Try::refused("a small e", "E,0,num,1 e,1,num,2", "X,1,2", 1_002),
+        Try::refused("a capital G", "T,0,any P,0,G0,0", "X,1,2", 1_002),
+        Try::refused("a capital G in an arrow", "T,0,int T,1,arrow,g0,0,G1,0", "X,1,2", 1_002),
+        Try::refused("plain as a scheme", "E,0,enc,plain,5", "X,1,1", 1_001),
+        Try::refused("a bracket behind Z", "T,0,[NT", "X,1,1", 1_001),
+        Try::refused("a brace behind z", "T,0,{nt", "X,1,1", 1_001),
     ]
 }

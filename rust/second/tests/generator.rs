@@ -1,10 +1,11 @@
 //! The generator gives a good mix of inputs, and random calls keep the table's promises.
 
+use second::counts::Counts;
 use second::generate::{
     any_bytes, call_list, chain, changed_line, closed_program, damaged_line, damaged_text,
-    doubling, opened, possible_words, program_with_floors, text_of_table, text_with_floors,
-    what_if_list, Call, Damage, Floors, NumberCounts, Opening, Partner, Place, Program, Random,
-    WRONG_FLOORS,
+    doubling, opened, possible_words, program_with_floors, spellings, text_in_any_case,
+    text_of_table, text_with_floors, what_if_list, Call, Damage, Floors, LetterCase, LetterDamage,
+    NumberCounts, Opening, Partner, Place, Program, Random, WRONG_FLOORS,
 };
 use second::line::read;
 use second::operation::Operation;
@@ -115,8 +116,9 @@ fn floors_are_met_and_missed_often() {
                 *named.entry(row).or_insert(0) += 1;
             }
         }
-        let is_explicit = |line: &String| line.starts_with('P') && line.ends_with(",PLAIN");
-        explicit += program.lines.iter().filter(|line| is_explicit(line)).count();
+        let parameters = program.lines.iter().filter(|line| line.starts_with('P'));
+        let is_explicit = |line: &&String| line.to_ascii_uppercase().ends_with(",PLAIN");
+        explicit += parameters.filter(is_explicit).count();
     }
     assert!(counts.keys().eq(&Floors::ALL), "{counts:?}");
     assert!(counts[&Floors::Plain] > 500 && counts[&Floors::Met] > 300, "{counts:?}");
@@ -261,6 +263,132 @@ fn numbers_stand_in_chains_and_deep_programs() {
     chains.places.assert_each([Place::Function], 20);
 }
 
+/// The lines that calls add.
+fn added(calls: Vec<Call>) -> impl Iterator<Item = Vec<u8>> {
+    calls.into_iter().filter_map(|call| match call {
+        Call::Add(line) => Some(line),
+        _ => None,
+    })
+}
+
+/// Asserts that the words of lines that a function makes are often in each case.
+fn assert_each_case(about: &str, seed: u64, make: impl Fn(&mut Random) -> Vec<Vec<u8>>) {
+    let mut random = Random::seeded(seed);
+    let (mut cases, mut lines) = (Counts::default(), 0);
+    while lines < 5_000 {
+        for case in make(&mut random).iter().filter_map(|line| LetterCase::of_words_in(line)) {
+            cases.add((about, case));
+            lines += 1;
+        }
+    }
+    cases.assert_each(LetterCase::ALL.map(|case| (about, case)), lines / 5);
+}
+
+#[test]
+fn words_are_in_each_case() {
+    let owned = |text: Vec<u8>| lines(&text).map(<[u8]>::to_vec).collect();
+    assert_each_case("a program", 49, |random| owned(program_with_floors(random, 40).text()));
+    assert_each_case("a list of calls", 50, |random| added(call_list(random, 40)).collect());
+    assert_each_case("a what-if list", 51, |random| added(what_if_list(random, 40, 5)).collect());
+    for (about, generate) in [("deep sharing", doubling as fn(&mut _) -> _), ("a chain", chain)] {
+        assert_each_case(about, 52, |random| {
+            let text = generate(random);
+            owned(text_with_floors(random, &text))
+        });
+    }
+    assert_each_case("a changed line", 53, |random| {
+        let line = closed_program(random, 1).lines.pop().unwrap();
+        vec![changed_line(random, line.as_bytes())]
+    });
+}
+
+#[test]
+fn programs_without_floors_are_in_capitals() {
+    let mut random = Random::seeded(54);
+    for _ in 0..200 {
+        let program = closed_program(&mut random, 60);
+        // Measured tables are made of these, so that they stay as they were.
+        let texts = [program.text(), text_of_table(&program.table()), chain(&mut random)];
+        for text in texts {
+            assert_eq!(LetterCase::Capitals.of_text(&mut random, &text), text);
+        }
+    }
+}
+
+#[test]
+fn a_text_in_any_case_declares_the_same() {
+    let mut random = Random::seeded(55);
+    for program in programs(56, 200) {
+        let text = program.text();
+        let changed = text_in_any_case(&mut random, &text);
+        assert!(changed.eq_ignore_ascii_case(&text));
+        assert_eq!(table(&changed), table(&text));
+    }
+    // A tag, the g of a variable, and a line without a comma keep their case; so does a G in the place of a g.
+    let text = b"P,0,g0,0\np,0,G63,0\nadd E,0,5\ninfer\nINFER\n";
+    for case in LetterCase::ALL {
+        assert_eq!(case.of_text(&mut random, text), text);
+    }
+}
+
+#[test]
+fn the_spellings_of_a_word_are_all_choices_of_letters() {
+    let of = |word| spellings(word).map(|it| String::from_utf8(it).unwrap()).collect::<Vec<_>>();
+    assert_eq!(of("AH"), ["AH", "aH", "Ah", "ah"]);
+    assert_eq!(of("DET"), ["DET", "dET", "DeT", "deT", "DEt", "dEt", "Det", "det"]);
+    let (mixed, all) = (LetterCase::Mixed, spellings("ARROW"));
+    assert_eq!(all.filter(|it| LetterCase::of_word(it) == mixed).count(), 30);
+}
+
+#[test]
+fn each_letter_damage_changes_one_byte_in_its_way() {
+    let mut random = Random::seeded(57);
+    let mut counts = Counts::default();
+    for line in programs(58, 80).iter().flat_map(|program| &program.lines) {
+        for damage in LetterDamage::ALL {
+            let Some(damaged) = damage.of_line(&mut random, line.as_bytes()) else {
+                let has_digit = |rest: &str| rest.starts_with(|first: char| first.is_ascii_digit());
+                assert!(!line.split(",g").skip(1).any(has_digit), "{damage:?} of {line}");
+                assert_eq!(damage, LetterDamage::Variable);
+                continue;
+            };
+            let bytes = line.bytes().zip(damaged.iter().copied());
+            let changes: Vec<(usize, (u8, u8))> =
+                bytes.enumerate().filter(|(_, (before, now))| before != now).collect();
+            let [(position, (before, now))] = changes[..] else {
+                panic!("{changes:?}");
+            };
+            assert!(match damage {
+                LetterDamage::Tag => position == 0 && b"tpe".contains(&now),
+                LetterDamage::Variable => (before, now) == (b'g', b'G'),
+                LetterDamage::CaseBit => before ^ now == 32,
+                LetterDamage::TopBit => now == before + 128,
+                LetterDamage::Neighbour => before.is_ascii_alphabetic() && b"@[`{".contains(&now),
+            });
+            counts.add((damage, read(&damaged).is_some()));
+        }
+    }
+    counts.assert_each(LetterDamage::ALL.map(|damage| (damage, false)), 500);
+    // Only a letter of a word has two cases.
+    counts.assert_each([(LetterDamage::CaseBit, true)], 500);
+    assert_eq!(counts.0.keys().filter(|(_, is_read)| *is_read).count(), 1, "{:?}", counts.0);
+}
+
+#[test]
+fn damaged_lines_have_letters_damaged() {
+    let mut random = Random::seeded(59);
+    let mut counts = Counts::default();
+    for line in programs(60, 400).iter().flat_map(|program| &program.lines) {
+        let damaged = damaged_line(&mut random, line.as_bytes());
+        let text = String::from_utf8_lossy(&damaged);
+        counts.add(("tag", text.starts_with(['t', 'p', 'e'])));
+        counts.add(("variable", text.contains(",G0") || text.contains(",G1")));
+        counts.add(("neighbour", text.contains(['@', '[', '`', '{'])));
+        counts.add(("top bit", damaged.iter().any(|byte| *byte >= 128)));
+    }
+    counts.assert_each(["tag", "variable", "neighbour", "top bit"].map(|name| (name, true)), 100);
+}
+
 #[test]
 fn damaged_lines_are_read_or_not() {
     let mut random = Random::seeded(26);
@@ -331,6 +459,7 @@ fn each_damage_changes_a_text_in_its_way() {
             let added = lines(&damaged).count() as isize - 4;
             assert!(match damage {
                 Damage::ByteChanged => bytes == 0 && damaged != text,
+                Damage::CaseChanged => damaged.eq_ignore_ascii_case(text) && damaged != text,
                 Damage::ByteDropped => bytes == -1,
                 Damage::LineDropped => added == -1,
                 Damage::LineRepeated => added == 1,

@@ -143,16 +143,18 @@ fn the_entry_returns_number_and_line_or_row_or_parameter() {
     assert_entry_refuses(b"E,0,ENC,FHE,1\nE,1,ENC,AH,2\nE,2,OP,ADD,0,1\n", 22_002);
     assert_entry_refuses(b"E,0,ENC,MH,1\nE,1,ENC,MH,2\nE,2,OP,ADD,0,1\n", 23_002);
     assert_entry_refuses(b"T,0,INT\nP,0,AH,0,MH\nE,0,VAR,0\nE,1,LAM,0,0\n", 24_000);
-    assert_entry_refuses(b"T,0,INT\nP,0,AH,0,ah\nE,0,VAR,0\nE,1,LAM,0,0\n", 1_002);
+    assert_entry_refuses(b"T,0,INT\nP,0,AH,0,G0\nE,0,VAR,0\nE,1,LAM,0,0\n", 1_002);
     assert_entry_accepts(b"E,0,ENC,MH,1", b"OK,0,1\nE,0,MH,INT\n");
     assert_entry_accepts(
         b"E,0,NUM,1\nE,1,ENC,AH,2\nE,2,OP,ADD,0,1\n",
         b"OK,0,3\nE,0,AH,INT\nE,1,AH,INT\nE,2,AH,INT\n",
     );
-    assert_entry_accepts(
-        b"T,0,INT\nP,0,AH,0,FHE\nE,0,VAR,0\nE,1,LAM,0,0\n",
-        b"OK,1,2\nP,0,AH,INT\nE,0,AH,INT\nE,1,PLAIN,ARROW\n",
-    );
+    for floor in ["FHE", "AH", "ah"] {
+        assert_entry_accepts(
+            format!("T,0,INT\nP,0,AH,0,{floor}\nE,0,VAR,0\nE,1,LAM,0,0\n").as_bytes(),
+            b"OK,1,2\nP,0,AH,INT\nE,0,AH,INT\nE,1,PLAIN,ARROW\n",
+        );
+    }
 }
 
 #[test]

@@ -127,6 +127,29 @@ fn each_refusal_of_an_add_has_its_number() {
 }
 
 #[test]
+fn words_of_a_line_are_read_in_either_case_and_commands_are_not() {
+    assert_exchanges(&[
+        ("add t,0,any", "1"),
+        ("add T,0,any", "0"),
+        ("add P,0,G0,0,ah", "1"),
+        ("Add P,0,g0,0,ah", "?"),
+        ("add P,0,g0,0,ah", "0"),
+        ("add E,0,var,0", "0"),
+        ("add E,1,Var,0", "0"),
+        ("add E,2,oP,adD,0,1", "0"),
+        ("add E,3,lam,0,2", "0"),
+        ("infer", REPORT_A),
+        ("Infer", "?"),
+        ("Take-Back", "?"),
+        ("take-back", "0"),
+        ("ADD E,3,LAM,0,2", "?"),
+        ("infer", "NO,10,0"),
+        ("add E,3,LAM,0,2", "0"),
+        ("infer", REPORT_A),
+    ]);
+}
+
+#[test]
 fn full_lists_are_refused_with_3() {
     let mut lines: Vec<String> = (0..64).map(|row| format!("T,{row},INT")).collect();
     lines.extend((0..64).map(|parameter| format!("P,{parameter},AH,0")));

@@ -1,16 +1,19 @@
 //! Damaged lines, near the limits of what is accepted.
 
 use super::goals::{any_code, any_word};
+use super::letter_case::in_any_case;
+use super::letter_damage::LetterDamage;
 use super::random::Random;
 use super::text::code_text;
 use crate::operation::Operation;
+use crate::word::capitals;
 
 /// Fields that are refused or accepted at a limit, to put in the place of others.
-const FIELDS: [&str; 40] = [
+const FIELDS: [&str; 49] = [
     "", "0", "1", "2", "7", "00", "01", "-1", "+1", " 1", "63", "64", "255", "256", "65535",
-    "65536", "4294967295", "4294967296", "18446744073709551616", "T", "P", "E", "e", "INT", "ANY",
-    "ARROW", "LAM", "APP", "OP", "VAR", "NUM", "ENC", "ADD", "PLAIN", "FHE", "rand", "g0", "g63",
-    "g64", "g00",
+    "65536", "4294967295", "4294967296", "18446744073709551616", "T", "P", "E", "t", "p", "e",
+    "INT", "Int", "ANY", "ARROW", "LAM", "APP", "OP", "op", "VAR", "NUM", "ENC", "ADD", "gt",
+    "PLAIN", "plain", "FHE", "rand", "g", "g0", "g63", "g64", "g00", "G0", "G63",
 ];
 
 /// The place of a floor among the fields of a P line.
@@ -18,8 +21,8 @@ const FLOOR_FIELD: usize = 4;
 
 /// What may not stand behind the first four fields of a P line: fields that are no floor, or too many fields.
 pub const WRONG_FLOORS: [&str; 24] = [
-    "", "g0", "g63", "G0", "ah", "plain", "Rand", "INT", "ANY", "ADD", "NONE", "AHH", "A", "0",
-    "5", "-1", " AH", "AH ", "AH\r", "AH,", ",AH", "AH,AH", "PLAIN,PLAIN", "RAND,0",
+    "", "g0", "g63", "G0", "g", "gt", "PLA\u{131}N", "INT", "any", "ADD", "NONE", "AHH", "a", "0",
+    "5", "-1", " AH", "AH ", "AH\r", "AH,", ",AH", "ah,ah", "PLAIN,PLAIN", "RAND,0",
 ];
 
 /// So many bytes or fewer, of any values.
@@ -42,11 +45,18 @@ pub fn damaged_line(random: &mut Random, line: &[u8]) -> Vec<u8> {
         }
         2 if !damaged.is_empty() => damaged[position] = random.number() as u8,
         3 => damaged.truncate(position),
-        4 => damaged.make_ascii_lowercase(),
+        4 => damaged = with_damaged_letter(random, line),
         5 => damaged.resize(random.between(line.len(), 80), b'0'),
         _ => damaged = with_other_field(random, line),
     }
     damaged
+}
+
+/// The line with one of the changes to letters that it has a place for; an empty line has none.
+fn with_damaged_letter(random: &mut Random, line: &[u8]) -> Vec<u8> {
+    let changes = LetterDamage::ALL.into_iter().filter_map(|damage| damage.of_line(random, line));
+    let changed: Vec<Vec<u8>> = changes.collect();
+    random.pick(&changed).cloned().unwrap_or_default()
 }
 
 /// The line with one field replaced, inserted or dropped.
@@ -72,9 +82,9 @@ fn with_wrong_floor(random: &mut Random, line: &[u8]) -> Vec<u8> {
     fields.join(&b',')
 }
 
-/// The line with one field replaced by another of its kind; it stays well formed, unless an ENC's scheme becomes PLAIN or a variable.
+/// The line with one field replaced by another of its kind, and with its words in any case.
 ///
-/// The own number stays, as a wrong one hides all other refusals.
+/// It stays well formed, unless an ENC's scheme becomes PLAIN or a variable. The own number stays, as a wrong one hides all other refusals.
 pub fn changed_line(random: &mut Random, line: &[u8]) -> Vec<u8> {
     let mut fields: Vec<Vec<u8>> = line.split(|&byte| byte == b',').map(<[u8]>::to_vec).collect();
     let position = random.between(2, fields.len().saturating_sub(1));
@@ -86,7 +96,7 @@ pub fn changed_line(random: &mut Random, line: &[u8]) -> Vec<u8> {
         };
         *field = other.into_bytes();
     }
-    fields.join(&b',')
+    in_any_case(random, &fields.join(&b','))
 }
 
 /// Another field of the same kind: a number, an operation, or otherwise a qualifier.
@@ -103,9 +113,9 @@ fn other_of_kind(random: &mut Random, field: &[u8]) -> String {
     if Operation::of_word(field).is_some() {
         return Operation::ALL[random.below(Operation::ALL.len())].word().to_string();
     }
-    match text.as_ref() {
-        "INT" | "ANY" => (if random.one_in(2) { "INT" } else { "ANY" }).to_string(),
-        "LAM" | "APP" | "OP" | "VAR" | "NUM" | "ENC" | "ARROW" => text.to_string(),
+    match &capitals(field)[..] {
+        b"INT" | b"ANY" => (if random.one_in(2) { "INT" } else { "ANY" }).to_string(),
+        b"LAM" | b"APP" | b"OP" | b"VAR" | b"NUM" | b"ENC" | b"ARROW" => text.to_string(),
         _ => code_text(any_code(random)),
     }
 }

@@ -1,6 +1,7 @@
-//! Floors for the parameters of random programs: none, met ones and missed ones.
+//! Floors for the parameters of random programs: none, met ones and missed ones. Words are in any case.
 
 use super::goals::any_word;
+use super::letter_case::{in_any_case, text_in_any_case};
 use super::program::{closed_program, Program};
 use super::random::Random;
 use super::text::with_floor;
@@ -11,16 +12,21 @@ use crate::typing::judge;
 /// How often a floor is missed in a program, where one can be: once in so many parameters, 0 for never.
 const MISSED: [usize; 7] = [0, 0, 0, 1, 3, 8, 24];
 
-/// A random closed program as [`closed_program`] makes it; two of three have floors.
+/// A random closed program as [`closed_program`] makes it, its words in any case; two of three have floors.
 pub fn program_with_floors(random: &mut Random, rows: usize) -> Program {
     let program = closed_program(random, rows);
-    with_floors(random, program)
+    let mut program = with_floors(random, program);
+    for line in &mut program.lines {
+        *line = String::from_utf8_lossy(&in_any_case(random, line.as_bytes())).into_owned();
+    }
+    program
 }
 
-/// A text whose lines are all accepted and have no floors, with floors in two of three cases.
+/// A text whose lines are all accepted and have no floors, with its words in any case, and with floors in two of three texts.
 pub fn text_with_floors(random: &mut Random, text: &[u8]) -> Vec<u8> {
     let lines = String::from_utf8_lossy(text).lines().map(str::to_string).collect();
-    with_floors(random, Program { lines, redeclarations: vec![] }).text()
+    let program = with_floors(random, Program { lines, redeclarations: vec![] });
+    text_in_any_case(random, &program.text())
 }
 
 /// The program with floors that suit the words of its parameters, in two of three cases.

@@ -1,16 +1,19 @@
 //! Damaged texts, near the limits of what is accepted.
 
 use super::damage::{changed_line, damaged_line};
+use super::letter_damage::CASE_BIT;
 use super::random::Random;
 
 /// Bytes that stand in lines or between them, to put in the place of others.
-const FREQUENT: &[u8] = b"0123456789,,,\n\n\r\0 TPEAg";
+const FREQUENT: &[u8] = b"0123456789,,,\n\n\r\0 TPEAgtpeaG";
 
 /// One change to a text.
 #[derive(Clone, Copy, Debug, PartialEq, Eq, PartialOrd, Ord)]
 pub enum Damage {
     /// A byte has another value.
     ByteChanged,
+    /// A letter is in the other case.
+    CaseChanged,
     /// A byte is left out.
     ByteDropped,
     /// A line is left out.
@@ -42,15 +45,15 @@ pub enum Damage {
 }
 
 use Damage::{
-    ByteChanged, ByteDropped, CarriageReturn, CarriageReturns, FieldChanged, LineDamaged,
-    LineDropped, LineFeedDoubled, LineFeedDropped, LineFeedFirst, LineOf64Bytes, LineOf65Bytes,
-    LineRepeated, LinesSwapped, Shortened,
+    ByteChanged, ByteDropped, CarriageReturn, CarriageReturns, CaseChanged, FieldChanged,
+    LineDamaged, LineDropped, LineFeedDoubled, LineFeedDropped, LineFeedFirst, LineOf64Bytes,
+    LineOf65Bytes, LineRepeated, LinesSwapped, Shortened,
 };
 
 impl Damage {
     /// All changes.
-    pub const ALL: [Damage; 15] = [
-        ByteChanged, ByteDropped, LineDropped, LineRepeated, LinesSwapped, Shortened,
+    pub const ALL: [Damage; 16] = [
+        ByteChanged, CaseChanged, ByteDropped, LineDropped, LineRepeated, LinesSwapped, Shortened,
         LineFeedDropped, LineFeedDoubled, LineFeedFirst, CarriageReturn, CarriageReturns,
         LineOf64Bytes, LineOf65Bytes, LineDamaged, FieldChanged,
     ];
@@ -65,6 +68,7 @@ impl Damage {
                     *byte = other_byte(random, *byte);
                 }
             }
+            CaseChanged => change_case(random, &mut bytes),
             ByteDropped if !text.is_empty() => {
                 bytes.remove(position);
             }
@@ -128,6 +132,16 @@ fn other_byte(random: &mut Random, byte: u8) -> u8 {
         byte ^ 1
     } else {
         other
+    }
+}
+
+/// Puts a letter into the other case, if there is one.
+fn change_case(random: &mut Random, text: &mut [u8]) {
+    let mut letters: Vec<&mut u8> =
+        text.iter_mut().filter(|byte| byte.is_ascii_alphabetic()).collect();
+    let position = random.below(letters.len());
+    if let Some(letter) = letters.get_mut(position) {
+        **letter ^= CASE_BIT;
     }
 }
 

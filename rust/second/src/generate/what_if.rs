@@ -3,10 +3,12 @@
 use super::calls::{lowered_and_restored, Call};
 use super::floors::program_with_floors;
 use super::goals::{any_code, any_scheme, any_word};
+use super::letter_case::in_any_case;
 use super::random::Random;
 use crate::operation::Operation;
 use crate::qualifier::Qualifier;
 use crate::table::Table;
+use crate::word::capitals;
 
 /// The most rows that one question takes back.
 const MOST_TAKEN_BACK: usize = 12;
@@ -63,12 +65,12 @@ fn rebuilt(random: &mut Random, rows: &[Vec<u8>]) -> Vec<Call> {
     calls
 }
 
-/// The row with any operation in the place of its own, or any encrypted number or a number in the place of one.
+/// The row with any operation in the place of its own, or any encrypted number or a number in the place of one; its words are in any case.
 fn other_row(random: &mut Random, row: &[u8]) -> Vec<u8> {
     let mut fields: Vec<&[u8]> = row.split(|&byte| byte == b',').collect();
     let operation = Operation::ALL[random.below(Operation::ALL.len())];
     let scheme = any_scheme(random);
-    match fields[2] {
+    match &capitals(fields[2])[..] {
         b"OP" => fields[3] = operation.word().as_bytes(),
         b"NUM" | b"ENC" => {
             fields.truncate(2);
@@ -79,5 +81,5 @@ fn other_row(random: &mut Random, row: &[u8]) -> Vec<u8> {
         }
         _ => {}
     }
-    fields.join(&b',')
+    in_any_case(random, &fields.join(&b','))
 }

@@ -4,6 +4,7 @@
 #![allow(dead_code)]
 
 pub use second::generate::text_of_lines as text;
+use second::line::read;
 use second::place::inferred;
 use second::{place, Table};
 
@@ -12,6 +13,13 @@ pub fn assert_prints(program: &str, expected: &str) {
     let printed = String::from_utf8(place(&text(program))).unwrap();
     let expected = String::from_utf8(text(expected)).unwrap();
     assert_eq!(printed, expected, "for the program {program}");
+}
+
+/// Asserts that none of these lines has one of the forms.
+pub fn assert_unread<T: AsRef<[u8]> + ?Sized>(lines: &[&T]) {
+    for line in lines.iter().map(|line| line.as_ref()) {
+        assert_eq!(read(line), None, "for the line {}", line.escape_ascii());
+    }
 }
 
 /// The seven words.
