@@ -10,13 +10,12 @@ use borrow.Author.Tests.{ne-eqb, eqb-true}
 use Rattle.model.specs.Lists.{same, bytes}
 use Rattle.model.specs.Number.{numberOf}
 use Rattle.model.specs.Word.{capital, capitals, spells, orElse, variableCode, variableOf, wordOf, qualifierOf, schemeOf, operationOf}
-use Rattle.model.specs.Line.{onto, fields, field, floor, given, choose, exactly, intLine, anyLine, arrowLine, paramLine, lamLine, appLine, opLine, varLine, numLine, encLine, typeLine, leafLine, termLine, lineOf}
+use Rattle.model.specs.Line.{onto, fields, field, floor, choose, exactly, intLine, anyLine, arrowLine, paramLine, lamLine, appLine, opLine, varLine, numLine, encLine, typeLine, leafLine, termLine, lineOf}
 use Rattle.model.specs.Machine.{Machine, Change, freshMachine, entered, added}
 use Rattle.model.specs.Session.{Call, add, Outcome, returning, Answers, adds, Session, done}
 use Rattle.model.specs.Text.{linesOf, Load, stopped, loadFrom, Prints, Returns}
 use Rattle.model.specs.declared.Field.{Field}
 use Rattle.model.specs.declared.Field.the-variants.{Value, NoValue}
-use Rattle.model.specs.declared.Line.{Line}
 use Rattle.model.specs.declared.Line.the-variants.{NoForm}
 use Rattle.model.proofs.Lists.{same-bytes}
 use Rattle.model.proofs.Answers.{answers-same}

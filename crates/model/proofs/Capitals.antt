@@ -1,16 +1,16 @@
 -- A byte's capital, and what reads of a field as it reads of its capitals: a word's place and a number.
-use Prim.Native.Nat.{ℕ, zero, suc, _+_, _-_, _*_, _≤_, _<_}
+use Prim.Native.Nat.{ℕ, zero, suc, _+_, _-_, _≤_, _<_}
 use native.Mathlib.Omega.{arith}
 use native.Mathlib.Decide.{decLe}
-use mathlib.Core.Bool.{Bool, true, false, _&&_, _||_, not, cond, and-false}
-use mathlib.Core.List.{List, [], _∷_, map}
+use mathlib.Core.Bool.{Bool, true, false, _&&_, _||_, cond, and-false}
+use mathlib.Core.List.{List, [], _∷_}
 use mathlib.Core.Path.{_≡_, refl, sym, ap, ap₂, _∙_}
 use lib.Dec.{eqb, leb}
 use lib.ListN.{length, length-map, getD}
 use borrow.Author.Tests.{le-leb, lt-leb, leb-true, ne-eqb}
 use Rattle.scheme.proofs.Every.{and-left, and-right}
 use Rattle.model.specs.Lists.{allOf, contains, same}
-use Rattle.model.specs.Number.{isDigit, valueFrom, noLeadingZero, numberOf}
+use Rattle.model.specs.Number.{isDigit, numberOf}
 use Rattle.model.specs.Word.{qualifierWords, operationWords, capital, capitals, spells, placeIn, wordOf, schemeWords, schemeOf, operationOf}
 use Rattle.model.specs.declared.Field.{Field}
 use Rattle.model.specs.declared.Field.the-variants.{Value, NoValue}
@@ -29,8 +29,6 @@ pub capital-after : (b : ℕ) → 122 < b → b ≡ capital b
 unfolding capital
 capital-after b h = simp (lt-leb b 122 h, and-false)
 
-pub ruleset capital-ranges = (capital-before, capital-small, capital-after)
-
 -- A byte is a small letter with its capital, or reads as itself.
 capital-cases : {P : Type 0} (b : ℕ) → (97 ≤ b → b ≤ 122 → b - 32 ≡ capital b → P) → (b ≡ capital b → P) → P
 capital-cases {P} b small other = by (decLe 97 b) (decLe b 122)
@@ -40,10 +38,10 @@ capital-cases {P} b small other = by (decLe 97 b) (decLe b 122)
     by (yes low) (no past) = let after : 122 < b = omega arith in other (capital-after b after)
     by (no before) high = let below : b < 97 = omega arith in other (capital-before b below)
 
-pub capital-again : (b : ℕ) → capital (capital b) ≡ capital b
+capital-again : (b : ℕ) → capital (capital b) ≡ capital b
 capital-again b = capital-cases b (λ low high e. sym (ap capital e) ∙ sym (capital-before (b - 32) (omega arith)) ∙ e) (λ e. sym (ap capital e))
 
-pub capitals-again : (s : List ℕ) → capitals (capitals s) ≡ capitals s
+capitals-again : (s : List ℕ) → capitals (capitals s) ≡ capitals s
 capitals-again [] = refl
 capitals-again (b ∷ bs) = ap₂ _∷_ (capital-again b) (capitals-again bs)
 
@@ -57,7 +55,7 @@ capitals-at [] (suc i) = capital-before 0 (omega arith)
 capitals-at (b ∷ bs) zero = refl
 capitals-at (b ∷ bs) (suc i) = capitals-at bs i
 
--- A test that fails of all letters has the same result for a byte and its capital.
+-- A test that fails from `A` to `z` has the same result for a byte and its capital.
 pub test-capital : (test : ℕ → Bool) → ((b : ℕ) → 65 ≤ b → b ≤ 122 → test b ≡ false) → (b : ℕ) → test (capital b) ≡ test b
 test-capital test fails b =
     capital-cases b
