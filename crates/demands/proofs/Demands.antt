@@ -36,7 +36,8 @@ use Rattle.demands.specs.Refusals.{HasAnswer, RefusedExactly}
 use Rattle.demands.specs.Standing.{standing}
 use Rattle.demands.specs.Floors.{SomeMeetsFloors, GreatestMeetsFloors, GreatestMissesFloor}
 use Rattle.demands.specs.Completion.{ReportsTyping, ReportsAboveFloors}
-use Rattle.demands.specs.Replacements.{callsOf, outcomesOf, reportIn}
+use Rattle.demands.specs.Traces.{callsOf, outcomesOf}
+use Rattle.demands.specs.Replacements.{reportIn}
 use Rattle.demands.specs.InTurn.{InTurn}
 use Rattle.demands.specs.Scripts.{OneSession, commandFor, Spelled, unspelledNumbers, scriptOf, answersOf, Alike}
 use Rattle.demands.specs.EitherCase.{SameButCase, SameCallButCase}

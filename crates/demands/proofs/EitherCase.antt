@@ -1,50 +1,28 @@
 -- Lines that differ in the case of words alone enter the same, so that lists of calls and texts with such lines are answered alike.
-use Prim.Native.Nat.{ℕ, zero, suc, _+_, _≤_}
+use Prim.Native.Nat.{ℕ, _+_, _≤_}
 use native.Mathlib.Omega.{arith}
 use mathlib.Core.Bool.{Bool, true, false, cond}
 use mathlib.Core.List.{List, [], _∷_, map}
 use mathlib.Core.Path.{_≡_, refl, sym, ap, ap₂, subst, _∙_}
 use lib.Dec.{eqb, leb}
 use lib.ListN.{length, length-map, getD}
-use borrow.Author.Tests.{ne-eqb, eqb-true}
 use Rattle.model.specs.Lists.{same, bytes}
 use Rattle.model.specs.Number.{numberOf}
-use Rattle.model.specs.Word.{capital, capitals, spells, orElse, variableCode, variableOf, wordOf, qualifierOf, schemeOf, operationOf}
-use Rattle.model.specs.Line.{onto, fields, field, floor, choose, exactly, intLine, anyLine, arrowLine, paramLine, lamLine, appLine, opLine, varLine, numLine, encLine, typeLine, leafLine, termLine, lineOf}
+use Rattle.model.specs.Word.{capitals, spells, orElse, wordOf, qualifierOf, schemeOf, operationOf}
+use Rattle.model.specs.Line.{fields, field, floor, choose, exactly, intLine, anyLine, arrowLine, paramLine, lamLine, appLine, opLine, varLine, numLine, encLine, typeLine, leafLine, termLine, lineOf}
 use Rattle.model.specs.Machine.{Machine, Change, freshMachine, entered, added}
 use Rattle.model.specs.Session.{Call, add, Outcome, returning, Answers, adds, Session, done}
 use Rattle.model.specs.Text.{linesOf, Load, stopped, loadFrom, Prints, Returns}
-use Rattle.model.specs.declared.Field.{Field}
-use Rattle.model.specs.declared.Field.the-variants.{Value, NoValue}
+use Rattle.model.specs.declared.Field.the-variants.{Value}
 use Rattle.model.specs.declared.Line.the-variants.{NoForm}
-use Rattle.model.proofs.Lists.{same-bytes}
+use Rattle.model.proofs.Lists.{same-other}
 use Rattle.model.proofs.Answers.{answers-same}
-use Rattle.model.proofs.Capitals.{capitals-length, test-capital, read-alike, spells-capitals, word-capitals, scheme-capitals, operation-capitals, number-capitals}
-use Rattle.line.proofs.Bounds.{none-is-none, word-at-most}
+use Rattle.model.proofs.Capitals.{capitals-length, fields-capitals, field-capitals, read-alike, spells-capitals, word-capitals, scheme-capitals, operation-capitals, number-capitals}
+use Rattle.line.proofs.Bounds.{word-at-most, variable-cases, qualifier-cases}
 use Rattle.text.proofs.Front.{prints-loaded, returns-loaded}
-use Rattle.demands.specs.Replacements.{callsOf, outcomesOf}
+use Rattle.demands.specs.Traces.{callsOf, outcomesOf}
 use Rattle.demands.specs.InTurn.{InTurn, none, next}
 use Rattle.demands.specs.EitherCase.{SameButCase, SameCallButCase, same-call, both-add}
-
--- A comma is no letter, so that a line's capitals have the capitals of its fields.
-onto-capitals : (b : ℕ) (fs : List (List ℕ)) → map capitals (onto b fs) ≡ onto (capital b) (map capitals fs)
-onto-capitals b [] = refl
-onto-capitals b (f ∷ fs) = refl
-
-fields-capitals : (s : List ℕ) → fields (capitals s) ≡ map capitals (fields s)
-fields-capitals [] = refl
-fields-capitals (b ∷ bs) =
-    simp (test-capital (λ b. eqb b 44) (λ b low high. ne-eqb b 44 (λ e. omega arith)) b, fields-capitals bs) (by (eqb b 44))
-  where
-    by : (t : Bool) → cond t ([] ∷ map capitals (fields bs)) (onto (capital b) (map capitals (fields bs))) ≡ map capitals (cond t ([] ∷ fields bs) (onto b (fields bs)))
-    by true = refl
-    by false = sym (onto-capitals b (fields bs))
-
-field-capitals : (fs : List (List ℕ)) (k : ℕ) → getD (map capitals fs) k [] ≡ capitals (getD fs k [])
-field-capitals [] zero = refl
-field-capitals [] (suc k) = refl
-field-capitals (f ∷ fs) zero = refl
-field-capitals (f ∷ fs) (suc k) = field-capitals fs k
 
 module _ {s t : List ℕ} (alike : SameButCase s t) where
   parts : map capitals (fields s) ≡ map capitals (fields t)
@@ -120,34 +98,17 @@ module _ {text text′ : List ℕ} (alike : InTurn SameButCase (linesOf text) (l
   returns-alike = returns-loaded (loads-alike freshMachine 1 alike)
 
 -- A tag is the letter itself, and a variable begins with `g` itself.
-other-bytes : (s t : List ℕ) → ¬ (s ≡ t) → same s t ≡ false
-other-bytes s t differ = by (same s t) refl
-  where
-    by : (b : Bool) → same s t ≡ b → b ≡ false
-    by true e = absurd (differ (same-bytes s t e))
-    by false e = refl
-
 pub other-tag : (s : List ℕ) → ¬ (field s 0 ≡ bytes "T") → ¬ (field s 0 ≡ bytes "P") → ¬ (field s 0 ≡ bytes "E") → lineOf s ≡ NoForm
 unfolding lineOf choose
 other-tag s t p e =
-    simp (other-bytes (field s 0) (bytes "T") t, other-bytes (field s 0) (bytes "P") p, other-bytes (field s 0) (bytes "E") e) (either (leb (length s) 64))
+    simp (← same-other (field s 0) (bytes "T") t, ← same-other (field s 0) (bytes "P") p, ← same-other (field s 0) (bytes "E") e) (either (leb (length s) 64))
   where
     either : (short : Bool) → cond short NoForm NoForm ≡ NoForm
     either true = refl
     either false = refl
 
 pub variable-letter : (s : List ℕ) (c : ℕ) → qualifierOf s ≡ Value c → 7 ≤ c → getD s 0 0 ≡ 103
-unfolding qualifierOf
-variable-letter s c read variable = by (wordOf s) refl read
-  where
-    letter : (s : List ℕ) → variableOf s ≡ Value c → getD s 0 0 ≡ 103
-    letter [] e = none-is-none c e
-    letter (b ∷ bs) e = decide (eqb b 103) refl e
-      where
-        decide : (t : Bool) → eqb b 103 ≡ t → cond t (variableCode (numberOf 63 bs)) NoValue ≡ Value c → b ≡ 103
-        decide true h e = eqb-true b 103 h
-        decide false h e = none-is-none c e
-
-    by : (word : Field) → wordOf s ≡ word → orElse word (variableOf s) ≡ Value c → getD s 0 0 ≡ 103
-    by (Value n) w e = let is : n ≡ c = cc in absurd (omega (arith, word-at-most s n w))
-    by NoValue w e = letter s e
+variable-letter s c read above =
+    qualifier-cases s c read
+    (λ word. absurd (omega (arith, word-at-most s c word)))
+    (λ variable. variable-cases s c variable (λ digits k begins number code. ap (λ (s : List ℕ). getD s 0 0) begins))

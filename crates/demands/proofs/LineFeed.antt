@@ -11,7 +11,7 @@ use borrow.Author.Tests.{eqb-true, not-true}
 use Rattle.scheme.proofs.Every.{and-left, and-right}
 use Rattle.model.specs.Lists.{anyOf, allOf, contains, same, bytes}
 use Rattle.model.specs.Number.{numberOf}
-use Rattle.model.specs.Word.{qualifierWords, schemeWords, operationWords, spells, placeIn, orElse, variableCode, wordOf, variableOf, qualifierOf, schemeOf, operationOf}
+use Rattle.model.specs.Word.{qualifierWords, schemeWords, operationWords, spells, placeIn, wordOf, variableOf, qualifierOf, schemeOf, operationOf}
 use Rattle.model.specs.Line.{onto, fields, field, number, literal, qualifier, floor, scheme, operation, given, choose, exactly, tag, kind, intLine, anyLine, arrowLine, paramLine, lamLine, appLine, opLine, varLine, numLine, encLine, typeLine, leafLine, termLine, lineOf}
 use Rattle.model.specs.declared.Field.{Field}
 use Rattle.model.specs.declared.Field.the-variants.{Value, NoValue}
@@ -19,7 +19,7 @@ use Rattle.model.specs.declared.Line.{Line}
 use Rattle.model.specs.declared.Line.the-variants.{NoForm}
 use Rattle.model.proofs.Lists.{same-bytes}
 use Rattle.model.proofs.Capitals.{capitals-contain, spells-exactly}
-use Rattle.line.proofs.Bounds.{floor-cases}
+use Rattle.line.proofs.Bounds.{variable-cases, qualifier-cases, floor-cases}
 use Rattle.demands.proofs.Decimal.{number-digits}
 use Rattle.demands.proofs.Without.{digits-without}
 
@@ -47,28 +47,14 @@ place-clean c v (word ∷ words) f clean e = by (spells f word) refl (place-clea
     by false h later e = later e
 
 variable-clean : (v : ℕ) (f : List ℕ) → variableOf f ≡ Value v → Clean f
-variable-clean v [] e = refl
-variable-clean v (b ∷ bs) e = by (eqb b 103) refl e
-  where
-    digits : (k : Field) → numberOf 63 bs ≡ k → variableCode k ≡ Value v → Clean bs
-    digits (Value k) read e = number-clean 63 k bs read
-    digits NoValue read e = cc
-
-    by : (t : Bool) → eqb b 103 ≡ t → cond t (variableCode (numberOf 63 bs)) NoValue ≡ Value v → Clean (b ∷ bs)
-    by true h e = rw (eqb-true b 103 h) (digits (numberOf 63 bs) refl e)
-    by false h e = cc
+variable-clean v f e = variable-cases f v e (λ digits k begins number code. ap (contains 10) begins ∙ number-clean 63 k digits number)
 
 qualifier-word-clean : (v : ℕ) (f : List ℕ) → wordOf f ≡ Value v → Clean f
 unfolding wordOf
 qualifier-word-clean v f e = place-clean 0 v qualifierWords f refl e
 
 qualifier-clean : (v : ℕ) (f : List ℕ) → qualifierOf f ≡ Value v → Clean f
-unfolding qualifierOf
-qualifier-clean v f e = by (wordOf f) refl e
-  where
-    by : (k : Field) → wordOf f ≡ k → orElse k (variableOf f) ≡ Value v → Clean f
-    by (Value k) read e = qualifier-word-clean k f read
-    by NoValue read e = variable-clean v f e
+qualifier-clean v f e = qualifier-cases f v e (qualifier-word-clean v f) (variable-clean v f)
 
 scheme-clean : (v : ℕ) (f : List ℕ) → schemeOf f ≡ Value v → Clean f
 unfolding schemeOf

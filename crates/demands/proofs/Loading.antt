@@ -11,7 +11,8 @@ use Rattle.model.specs.Report.{line}
 use Rattle.model.specs.Session.{Call, add, Outcome, reporting, Infers, accepted, Answers, adds, Session, next}
 use Rattle.model.specs.Text.{linesOf, loaded, stopped, loadFrom, load, Prints, refused-add, refused-inference, reported}
 use Rattle.model.proofs.Answers.{infers-same}
-use Rattle.demands.specs.Replacements.{callsOf, addsOf}
+use Rattle.demands.specs.Traces.{callsOf}
+use Rattle.demands.specs.Replacements.{addsOf}
 
 none-load : {m′ : Machine} (m : Machine) (n : ℕ) → loadFrom m n [] ≡ loaded m′ → m ≡ m′
 unfolding loadFrom

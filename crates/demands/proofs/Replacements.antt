@@ -19,7 +19,8 @@ use Rattle.inference.proofs.Corollaries.{open-exactly, refused-untypable, repor
 use Rattle.text.proofs.Accepted.{entries, added-longer}
 use Rattle.starred.specs.Starred.{textOf, program-A}
 use Rattle.starred.proofs.Operations.{program-A-prints}
-use Rattle.demands.specs.Replacements.{plainForEverySlot, callsOf, addsOf, reportIn}
+use Rattle.demands.specs.Traces.{callsOf}
+use Rattle.demands.specs.Replacements.{plainForEverySlot, addsOf, reportIn}
 use Rattle.demands.proofs.Decimal.{report-counts}
 use Rattle.demands.proofs.Loading.{session-loaded, printed-reported}
 use Rattle.demands.proofs.ProgramA.{machine-A, plain-differs, both-reports}

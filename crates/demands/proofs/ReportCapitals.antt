@@ -1,7 +1,7 @@
 -- A report holds no small letter: its tags and words are in capitals, and digits, commas and line feeds are no letters.
 use Prim.Native.Nat.{ℕ, zero, suc, _+_}
 use mathlib.Core.Bool.{Bool, true, false, cond}
-use mathlib.Core.List.{List, [], _∷_, _++_}
+use mathlib.Core.List.{List, [], _∷_, _++_, map-append}
 use mathlib.Core.Path.{_≡_, refl, sym, ap, ap₂, _∙_}
 use lib.ListN.{length, getD, take}
 use lib.Seq.{take-append-seam}
@@ -24,12 +24,8 @@ use Rattle.demands.proofs.Decimal.{decimal-digits}
 abbrev InCapitals : List ℕ → Type 0
 InCapitals s = capitals s ≡ s
 
-capitals-append : (xs ys : List ℕ) → capitals (xs ++ ys) ≡ capitals xs ++ capitals ys
-capitals-append [] ys = refl
-capitals-append (x ∷ xs) ys = ap (λ (rest : List ℕ). capital x ∷ rest) (capitals-append xs ys)
-
 both : (xs ys : List ℕ) → InCapitals xs → InCapitals ys → InCapitals (xs ++ ys)
-both xs ys p q = capitals-append xs ys ∙ ap₂ _++_ p q
+both xs ys p q = map-append capital xs ys ∙ ap₂ _++_ p q
 
 comma : InCapitals (44 ∷ [])
 unfolding capital

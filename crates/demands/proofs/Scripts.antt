@@ -17,7 +17,7 @@ use Rattle.model.specs.Script as Script
 use Rattle.model.proofs.Scripts.{conversation-same}
 use Rattle.line.proofs.RoundTrip.{number-of-decimal}
 use Rattle.starred.specs.Starred.{All}
-use Rattle.demands.specs.Replacements.{callsOf}
+use Rattle.demands.specs.Traces.{callsOf}
 use Rattle.demands.specs.InTurn.{InTurn}
 use Rattle.demands.specs.Scripts.{OneSession, commandFor, Spelled, scriptOf, answersOf, Alike, same-call, both-infer}
 use Rattle.demands.proofs.Without.{first-other, rest-without, without-both, before-all, decimal-without}

@@ -2,6 +2,7 @@ pub mod Floors
 pub mod Refusals
 pub mod Standing
 pub mod Completion
+pub mod Traces
 pub mod Replacements
 pub mod InTurn
 pub mod Scripts

@@ -12,14 +12,6 @@ use Rattle.starred.specs.Starred.{Example}
 abbrev pub plainForEverySlot : Slot → ℕ
 plainForEverySlot x = 0
 
--- The calls of a list, without what they returned.
-abbrev pub callsOf : List (Call × Outcome) → List Call
-callsOf trace = map (λ step. step .0) trace
-
--- What the calls of a list returned.
-abbrev pub outcomesOf : List (Call × Outcome) → List Outcome
-outcomesOf trace = map (λ step. step .1) trace
-
 -- The adds of a text, line by line.
 abbrev pub addsOf : List ℕ → List Call
 addsOf text = map add (linesOf text)

@@ -4,7 +4,7 @@ use native.Mathlib.Nat.{le-of-lt}
 use native.Mathlib.Omega.{arith}
 use mathlib.Core.Bool.{Bool, true, false, _&&_, cond}
 use mathlib.Core.List.{List, [], _∷_}
-use mathlib.Core.Path.{_≡_, refl, sym, _∙_}
+use mathlib.Core.Path.{_≡_, refl, sym, ap, _∙_}
 use lib.Dec.{eqb, leb}
 use lib.ListN.{length}
 use mir.Syntax.{Width}
@@ -59,22 +59,31 @@ pub operation-below : (s : List ℕ) (c : ℕ) → operationOf s ≡ Value c →
 unfolding operationOf
 operation-below s c e = place-between 0 operationWords s c e .1
 
-variable-at-most : (s : List ℕ) (c : ℕ) → variableOf s ≡ Value c → c ≤ 70
-variable-at-most [] c e = none-is-none c e
-variable-at-most (b ∷ bs) c e = go (eqb b 103) (numberOf 63 bs) refl e
+-- A variable begins with `g`, and its number follows.
+pub variable-cases : {P : Type 0} (s : List ℕ) (c : ℕ) → variableOf s ≡ Value c →
+    ((digits : List ℕ) (k : ℕ) → s ≡ 103 ∷ digits → numberOf 63 digits ≡ Value k → k + 7 ≡ c → P) → P
+variable-cases [] c e found = none-is-none c e
+variable-cases {P} (b ∷ bs) c e found = go (eqb b 103) (numberOf 63 bs) refl refl e
   where
-    go : (t : Bool) (f : Field) → numberOf 63 bs ≡ f → cond t (variableCode f) NoValue ≡ Value c → c ≤ 70
-    go true (Value k) p q = let v : k + 7 ≡ c = cc in omega (arith, number-at-most 63 bs k p)
-    go true NoValue p q = none-is-none c q
-    go false f p q = none-is-none c q
+    go : (t : Bool) (f : Field) → eqb b 103 ≡ t → numberOf 63 bs ≡ f → cond t (variableCode f) NoValue ≡ Value c → P
+    go true (Value k) g p q = found bs k (ap (λ (b : ℕ). b ∷ bs) (eqb-true b 103 g)) p (cc)
+    go true NoValue g p q = none-is-none c q
+    go false f g p q = none-is-none c q
+
+-- A qualifier is a word, or else a variable.
+pub qualifier-cases : {P : Type 0} (s : List ℕ) (c : ℕ) → qualifierOf s ≡ Value c → (wordOf s ≡ Value c → P) → (variableOf s ≡ Value c → P) → P
+unfolding qualifierOf
+qualifier-cases {P} s c e word variable = go (wordOf s) refl e
+  where
+    go : (f : Field) → wordOf s ≡ f → orElse f (variableOf s) ≡ Value c → P
+    go (Value n) p q = word (p ∙ q)
+    go NoValue p q = variable q
 
 pub qualifier-at-most : (s : List ℕ) (c : ℕ) → qualifierOf s ≡ Value c → c ≤ 70
-unfolding qualifierOf
-qualifier-at-most s c e = go (wordOf s) refl e
-  where
-    go : (f : Field) → wordOf s ≡ f → orElse f (variableOf s) ≡ Value c → c ≤ 70
-    go (Value n) p q = let v : n ≡ c = cc in omega (arith, word-at-most s n p)
-    go NoValue p q = variable-at-most s c q
+qualifier-at-most s c e =
+    qualifier-cases s c e
+    (λ word. omega (arith, word-at-most s c word))
+    (λ variable. variable-cases s c variable (λ digits k begins number code. omega (arith, number-at-most 63 digits k number, code)))
 
 -- A floor is PLAIN in a line of four fields, or the word that stands last of five.
 pub floor-cases : {P : Type 0} (s : List ℕ) (c : ℕ) → floor s ≡ Value c →

@@ -1,9 +1,9 @@
--- A byte's capital, and what reads of a field as it reads of its capitals: a word's place and a number.
+-- A byte's capital, the fields of a line's capitals, and what reads of a field as it reads of its capitals: a word's place and a number.
 use Prim.Native.Nat.{ℕ, zero, suc, _+_, _-_, _≤_, _<_}
 use native.Mathlib.Omega.{arith}
 use native.Mathlib.Decide.{decLe}
 use mathlib.Core.Bool.{Bool, true, false, _&&_, _||_, cond, and-false}
-use mathlib.Core.List.{List, [], _∷_}
+use mathlib.Core.List.{List, [], _∷_, map}
 use mathlib.Core.Path.{_≡_, refl, sym, ap, ap₂, _∙_}
 use lib.Dec.{eqb, leb}
 use lib.ListN.{length, length-map, getD}
@@ -12,6 +12,7 @@ use Rattle.scheme.proofs.Every.{and-left, and-right}
 use Rattle.model.specs.Lists.{allOf, contains, same}
 use Rattle.model.specs.Number.{isDigit, numberOf}
 use Rattle.model.specs.Word.{qualifierWords, operationWords, capital, capitals, spells, placeIn, wordOf, schemeWords, schemeOf, operationOf}
+use Rattle.model.specs.Line.{onto, fields}
 use Rattle.model.specs.declared.Field.{Field}
 use Rattle.model.specs.declared.Field.the-variants.{Value, NoValue}
 use Rattle.model.proofs.Lists.{same-bytes, same-self}
@@ -65,6 +66,26 @@ test-capital test fails b =
 pub capitals-contain : (c : ℕ) → c < 65 → (s : List ℕ) → contains c (capitals s) ≡ contains c s
 capitals-contain c h [] = refl
 capitals-contain c h (b ∷ bs) = ap₂ _||_ (test-capital (eqb c) (λ b low high. ne-eqb c b (λ e. omega arith)) b) (capitals-contain c h bs)
+
+-- A comma is no letter, so that a line's capitals have the capitals of its fields.
+onto-capitals : (b : ℕ) (fs : List (List ℕ)) → map capitals (onto b fs) ≡ onto (capital b) (map capitals fs)
+onto-capitals b [] = refl
+onto-capitals b (f ∷ fs) = refl
+
+pub fields-capitals : (s : List ℕ) → fields (capitals s) ≡ map capitals (fields s)
+fields-capitals [] = refl
+fields-capitals (b ∷ bs) =
+    simp (test-capital (λ b. eqb b 44) (λ b low high. ne-eqb b 44 (λ e. omega arith)) b, fields-capitals bs) (by (eqb b 44))
+  where
+    by : (t : Bool) → cond t ([] ∷ map capitals (fields bs)) (onto (capital b) (map capitals (fields bs))) ≡ map capitals (cond t ([] ∷ fields bs) (onto b (fields bs)))
+    by true = refl
+    by false = sym (onto-capitals b (fields bs))
+
+pub field-capitals : (fs : List (List ℕ)) (k : ℕ) → getD (map capitals fs) k [] ≡ capitals (getD fs k [])
+field-capitals [] zero = refl
+field-capitals [] (suc k) = refl
+field-capitals (f ∷ fs) zero = refl
+field-capitals (f ∷ fs) (suc k) = field-capitals fs k
 
 -- A field spells a word exactly where its capitals are the word.
 pub spells-exactly : (s word : List ℕ) → (spells s word ≡ true → capitals s ≡ word) × (capitals s ≡ word → spells s word ≡ true)

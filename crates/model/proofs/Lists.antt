@@ -1,9 +1,9 @@
--- Bytes that are the same, and bytes of another count, which are not; and no more bytes stand before the first of a kind than there are.
+-- Bytes that are the same, and others, of another count among them, which are not; and no more bytes stand before the first of a kind than there are.
 use Prim.Native.Nat.{ℕ, suc, _≤_}
 use native.Mathlib.Omega.{arith}
-use mathlib.Core.Bool.{Bool, true, false, cond, and-false, false≢true}
+use mathlib.Core.Bool.{Bool, true, false, cond, false≢true}
 use mathlib.Core.List.{List, [], _∷_}
-use mathlib.Core.Path.{_≡_, refl, sym, ap, ap₂}
+use mathlib.Core.Path.{_≡_, refl, ap, ap₂}
 use lib.Dec.{eqb}
 use lib.ListN.{length}
 use borrow.Author.Tests.{eqb-true, eq-eqb}
@@ -20,11 +20,15 @@ pub same-self : (s : List ℕ) → same s s ≡ true
 same-self [] = refl
 same-self (b ∷ bs) = and-both (eqb b b) (same bs bs) (eq-eqb b b refl) (same-self bs)
 
+pub same-other : (s t : List ℕ) → (s ≡ t → ⊥) → false ≡ same s t
+same-other s t differ = by (same s t) refl
+  where
+    by : (b : Bool) → same s t ≡ b → false ≡ b
+    by true e = absurd (differ (same-bytes s t e))
+    by false e = refl
+
 pub same-length : (s t : List ℕ) → (length s ≡ length t → ⊥) → false ≡ same s t
-same-length [] [] h = absurd (h refl)
-same-length [] (b ∷ bs) h = refl
-same-length (a ∷ as′) [] h = refl
-same-length (a ∷ as′) (b ∷ bs) h = simp (sym (same-length as′ bs (λ e. h (ap suc e)))) (sym (and-false (eqb a b)))
+same-length s t h = same-other s t (λ e. h (ap length e))
 
 pub before-most : (b : ℕ) (s : List ℕ) → lengthBefore b s ≤ length s
 before-most b [] = omega arith
