@@ -8,7 +8,7 @@ use second::generate::{
     text_with_floors, Floors, NumberCounts, Opening, Place, Random,
 };
 use second::qualifier::{meet, Qualifier};
-use second::to_try;
+use second::{to_try, SchemeTable};
 
 /// Compares the answers on these texts; gives how often each number was answered.
 fn compare(texts: impl Iterator<Item = Vec<u8>>) -> [usize; 101] {
@@ -45,7 +45,7 @@ fn closed_programs() {
     let operands = Place::operands().into_iter();
     let places = operands.chain([Place::IgnoredArgument, Place::Argument, Place::Result]);
     literals.places.assert_each(places.chain([Place::Body]), 300);
-    literals.words.assert_each(Qualifier::ALL.map(Qualifier::word), 200);
+    literals.words.assert_each(SchemeTable::six().words(), 200);
 }
 
 #[test]

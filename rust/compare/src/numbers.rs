@@ -37,7 +37,7 @@ fn type_numbers(own: u32, row: TypeRow) -> Numbers {
 /// The numbers of a parameter.
 fn parameter_numbers(own: u32, parameter: Parameter) -> Numbers {
     let Parameter { qualifier, type_row, floor } = parameter;
-    [4, own, qualifier.into(), type_row.into(), floor.code().into(), 0]
+    [4, own, qualifier.into(), type_row.into(), floor.into(), 0]
 }
 
 /// The numbers of a term row.
@@ -50,6 +50,6 @@ fn term_numbers(own: u32, term: Term) -> Numbers {
         }
         Term::Variable { parameter } => [8, own, parameter.into(), 0, 0, 0],
         Term::Number { value } => [9, own, value, 0, 0, 0],
-        Term::Encrypted { scheme, value } => [10, own, scheme.code().into(), value, 0, 0],
+        Term::Encrypted { scheme, value } => [10, own, scheme.into(), value, 0, 0],
     }
 }

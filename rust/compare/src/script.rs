@@ -82,7 +82,7 @@ fn type_bytes(row: &TypeRow) -> EntryBytes {
 /// The bytes of a parameter.
 fn parameter_bytes(parameter: &Parameter) -> EntryBytes {
     let [low, high] = parameter.type_row.to_le_bytes();
-    [1, parameter.qualifier, low, high, parameter.floor.code(), 0, 0, 0, 0, 0]
+    [1, parameter.qualifier, low, high, parameter.floor, 0, 0, 0, 0, 0]
 }
 
 /// The bytes of a term row.
@@ -93,7 +93,7 @@ fn term_bytes(term: &Term) -> EntryBytes {
         Term::Operate { operation, left, right } => pair_bytes(3, operation.code(), left, right),
         Term::Variable { parameter } => pair_bytes(4, 0, parameter, 0),
         Term::Number { value } => number_bytes(5, 0, value),
-        Term::Encrypted { scheme, value } => number_bytes(6, scheme.code(), value),
+        Term::Encrypted { scheme, value } => number_bytes(6, scheme, value),
     }
 }
 

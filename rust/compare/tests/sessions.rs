@@ -9,10 +9,9 @@ use compare::{placement_session, session_lent};
 use second::counts::Counts;
 use second::generate::{deep, text_of_lines, LetterCase, NumberCounts, Place, Random};
 use second::place::lines;
-use second::qualifier::Qualifier;
 use second::session::{answer, session, written, Command};
 use second::to_try;
-use second::Table;
+use second::{SchemeTable, Table};
 use std::fs;
 use std::path::Path;
 
@@ -410,7 +409,7 @@ fn scripts_of_each_kind_are_answered_alike() {
     println!("{:?}\n{:?}", tally.numbers, tally.words);
     tally.words.assert_each(SCRIPTS / 400);
     tally.numbers.places.assert_each(Place::all(), SCRIPTS / 100);
-    tally.numbers.words.assert_each(Qualifier::ALL.map(Qualifier::word), SCRIPTS / 100);
+    tally.numbers.words.assert_each(SchemeTable::six().words(), SCRIPTS / 100);
     tally.numbers.different_words.assert_each(2..=3, SCRIPTS / 100);
 }
 

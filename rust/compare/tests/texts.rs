@@ -18,7 +18,7 @@ use second::qualifier::Qualifier;
 use second::report::LONGEST_REPORT;
 use second::rows::TypeRow;
 use second::to_try;
-use second::Table;
+use second::{SchemeTable, Table};
 use std::time::Instant;
 
 /// How many texts of all kinds are compared.
@@ -379,9 +379,10 @@ fn tables_of_each_size_are_answered_alike() {
     tally.answers.assert_each(VERDICTS, TABLES / 20);
     tally.assert_each_word(TABLES / 3_000);
     numbers.places.assert_each(Place::all(), TABLES / 60);
-    numbers.partners.assert_each(Partner::all(), TABLES / 200);
-    numbers.words.assert_each(Qualifier::ALL.map(Qualifier::word), TABLES / 20);
-    numbers.operand_words.assert_each(possible_words(), TABLES / 600);
+    let six = SchemeTable::six();
+    numbers.partners.assert_each(Partner::all(six), TABLES / 200);
+    numbers.words.assert_each(six.words(), TABLES / 20);
+    numbers.operand_words.assert_each(possible_words(six), TABLES / 600);
     numbers.different_words.assert_each(2..=4, TABLES / 100);
     words.assert_each(TABLES / 300);
     tally.finish(&format!("{TABLES} closed tables"));

@@ -1,36 +1,32 @@
 //! Classes of qualifiers that must be equal, with the constant and the bounds of each class.
 
-use crate::qualifier::{at_or_below, meet, Qualifier, GREATEST_CODE};
+use crate::schemes::{Code, SchemeTable};
 
-/// A qualifier that takes part in equations. The codes 0 to 70 stand for the seven
-/// qualifiers and the named variables; greater numbers are unknown qualifiers of rows.
+/// A qualifier that takes part in equations. The codes of a scheme table stand for its qualifiers
+/// and the named variables; greater numbers are unknown qualifiers of rows.
 pub type Element = usize;
 
 /// A partition of the elements into classes.
-pub struct Classes {
+pub struct Classes<'a> {
+    /// What the qualifiers are and how they are ordered.
+    schemes: &'a SchemeTable,
     /// The class of each element.
     class_of: Vec<usize>,
     /// The qualifier that stands in each class, if any.
-    constant: Vec<Option<Qualifier>>,
+    constant: Vec<Option<Code>>,
     /// The greatest lower bound of the schemes that limit each class.
-    bound: Vec<Qualifier>,
+    bound: Vec<Code>,
 }
 
-impl Default for Classes {
-    fn default() -> Classes {
-        Classes::new()
-    }
-}
-
-impl Classes {
-    /// The seven qualifiers and the named variables, each in a class of its own.
-    pub fn new() -> Classes {
-        let mut classes = Classes { class_of: vec![], constant: vec![], bound: vec![] };
-        for _ in 0..=GREATEST_CODE {
+impl<'a> Classes<'a> {
+    /// The qualifiers of a scheme table and the named variables, each in a class of its own.
+    pub fn new(schemes: &'a SchemeTable) -> Classes<'a> {
+        let mut classes = Classes { schemes, class_of: vec![], constant: vec![], bound: vec![] };
+        for _ in 0..=schemes.last_variable() {
             classes.unknown();
         }
-        for qualifier in Qualifier::ALL {
-            classes.constant[usize::from(qualifier.code())] = Some(qualifier);
+        for qualifier in schemes.qualifiers() {
+            classes.constant[usize::from(qualifier)] = Some(qualifier);
         }
         classes
     }
@@ -40,7 +36,7 @@ impl Classes {
         let element = self.class_of.len();
         self.class_of.push(element);
         self.constant.push(None);
-        self.bound.push(Qualifier::Rand);
+        self.bound.push(self.schemes.greatest());
         element
     }
 
@@ -64,18 +60,18 @@ impl Classes {
     }
 
     /// Limits an element to qualifiers at or below a scheme; false if that leaves no solution.
-    pub fn limit(&mut self, element: Element, scheme: Qualifier) -> bool {
+    pub fn limit(&mut self, element: Element, scheme: Code) -> bool {
         let class = self.class_of[element];
-        self.bound[class] = meet(self.bound[class], scheme);
+        self.bound[class] = self.schemes.meet(self.bound[class], scheme);
         match self.constant[class] {
-            Some(constant) => at_or_below(constant, self.bound[class]),
+            Some(constant) => self.schemes.at_or_below(constant, self.bound[class]),
             // PLAIN is at or below every bound.
             None => true,
         }
     }
 
     /// The greatest qualifier that a solution gives to an element.
-    pub fn greatest(&self, element: Element) -> Qualifier {
+    pub fn greatest(&self, element: Element) -> Code {
         let class = self.class_of[element];
         self.constant[class].unwrap_or(self.bound[class])
     }

@@ -1,6 +1,7 @@
 //! A second, independent solver for scheme inference over a term table.
 //!
-//! It is written for clarity and serves as the reference in comparison tests.
+//! It is written for clarity and serves as the reference in comparison tests. It runs over any scheme
+//! table; functions that are given neither one nor a file or a table with one are about the built-in six.
 
 #![forbid(unsafe_code)]
 #![warn(missing_docs)]
@@ -14,6 +15,7 @@ pub mod place;
 pub mod qualifier;
 pub mod report;
 pub mod rows;
+pub mod schemes;
 pub mod session;
 pub mod solution;
 pub mod table;
@@ -21,7 +23,8 @@ pub mod to_try;
 pub mod typing;
 pub mod word;
 
-pub use place::{entry, place};
+pub use place::{entry, entry_under, place};
 pub use rows::Entry;
+pub use schemes::SchemeTable;
 pub use session::session;
 pub use table::{Answer, Table};

@@ -1,54 +1,61 @@
 //! Reads one line into the entry that it declares.
 
 use crate::operation::Operation;
-use crate::qualifier::{Qualifier, FIRST_VARIABLE_CODE, NAMED_VARIABLES};
+use crate::qualifier::NAMED_VARIABLES;
 use crate::rows::{Entry, Parameter, QualifiedRow, Term, TypeRow};
+use crate::schemes::{Code, SchemeTable, PLAIN};
 use crate::word::capitals;
 
 /// The greatest length of a line, without its line feed.
 pub const LONGEST_LINE: usize = 64;
 
-/// Reads a line given without its line feed; `None` if it has none of the forms.
+/// Reads a line given without its line feed, under the built-in six; `None` if it has none of the forms.
 pub fn read(line: &[u8]) -> Option<Entry> {
+    read_under(SchemeTable::six(), line)
+}
+
+/// Reads a line given without its line feed, its qualifier words being a scheme table's.
+pub fn read_under(schemes: &SchemeTable, line: &[u8]) -> Option<Entry> {
     if line.len() > LONGEST_LINE {
         return None;
     }
     let fields: Vec<&[u8]> = line.split(|&byte| byte == b',').collect();
     // The tags are no words: they are capitals only.
     match *fields.as_slice() {
-        [b"T", own, ref rest @ ..] => Some(Entry::T(small(own)?, type_row(rest)?)),
-        [b"P", own, ref rest @ ..] => Some(Entry::P(small(own)?, parameter(rest)?)),
-        [b"E", own, ref rest @ ..] => Some(Entry::E(small(own)?, term(rest)?)),
+        [b"T", own, ref rest @ ..] => Some(Entry::T(small(own)?, type_row(schemes, rest)?)),
+        [b"P", own, ref rest @ ..] => Some(Entry::P(small(own)?, parameter(schemes, rest)?)),
+        [b"E", own, ref rest @ ..] => Some(Entry::E(small(own)?, term(schemes, rest)?)),
         _ => None,
     }
 }
 
 /// Reads the fields of a type row after its own number.
-fn type_row(fields: &[&[u8]]) -> Option<TypeRow> {
+fn type_row(schemes: &SchemeTable, fields: &[&[u8]]) -> Option<TypeRow> {
     let (kind, rest) = fields.split_first()?;
     match (&capitals(kind)[..], rest) {
         (b"INT", []) => Some(TypeRow::Int),
         (b"ANY", []) => Some(TypeRow::Any),
         (b"ARROW", [from, argument, to, result]) => Some(TypeRow::Arrow {
-            argument: qualified_row(from, argument)?,
-            result: qualified_row(to, result)?,
+            argument: qualified_row(schemes, from, argument)?,
+            result: qualified_row(schemes, to, result)?,
         }),
         _ => None,
     }
 }
 
 /// Reads the fields of a parameter after its own number; without a floor it is PLAIN.
-fn parameter(fields: &[&[u8]]) -> Option<Parameter> {
+fn parameter(schemes: &SchemeTable, fields: &[&[u8]]) -> Option<Parameter> {
     let (qualifier, row, floor) = match *fields {
-        [qualifier, row] => (qualifier, row, Qualifier::Plain),
-        [qualifier, row, floor] => (qualifier, row, Qualifier::of_word(floor)?),
+        [qualifier, row] => (qualifier, row, PLAIN),
+        [qualifier, row, floor] => (qualifier, row, schemes.of_word(floor)?),
         _ => return None,
     };
-    Some(Parameter { qualifier: qualifier_code(qualifier)?, type_row: small(row)?, floor })
+    let qualifier = qualifier_code(schemes, qualifier)?;
+    Some(Parameter { qualifier, type_row: small(row)?, floor })
 }
 
 /// Reads the fields of a term row after its own number.
-fn term(fields: &[&[u8]]) -> Option<Term> {
+fn term(schemes: &SchemeTable, fields: &[&[u8]]) -> Option<Term> {
     let (kind, rest) = fields.split_first()?;
     match (&capitals(kind)[..], rest) {
         (b"LAM", [parameter, body]) => {
@@ -65,29 +72,30 @@ fn term(fields: &[&[u8]]) -> Option<Term> {
         (b"VAR", [parameter]) => Some(Term::Variable { parameter: small(parameter)? }),
         (b"NUM", [value]) => Some(Term::Number { value: number(value)? }),
         (b"ENC", [scheme, value]) => {
-            Some(Term::Encrypted { scheme: self::scheme(scheme)?, value: number(value)? })
+            Some(Term::Encrypted { scheme: scheme_code(schemes, scheme)?, value: number(value)? })
         }
         _ => None,
     }
 }
 
 /// Reads a qualifier and a type row.
-fn qualified_row(qualifier: &[u8], row: &[u8]) -> Option<QualifiedRow> {
-    Some(QualifiedRow { qualifier: qualifier_code(qualifier)?, type_row: small(row)? })
+fn qualified_row(schemes: &SchemeTable, qualifier: &[u8], row: &[u8]) -> Option<QualifiedRow> {
+    Some(QualifiedRow { qualifier: qualifier_code(schemes, qualifier)?, type_row: small(row)? })
 }
 
 /// Reads a qualifier word, or a named variable `g0` to `g63`, whose `g` is small, into its code.
-fn qualifier_code(field: &[u8]) -> Option<u8> {
-    if let Some(qualifier) = Qualifier::of_word(field) {
-        return Some(qualifier.code());
+fn qualifier_code(schemes: &SchemeTable, field: &[u8]) -> Option<Code> {
+    // No word has a digit, so that none is a variable too.
+    if let Some(qualifier) = schemes.of_word(field) {
+        return Some(qualifier);
     }
     let variable = u8::try_from(number(field.strip_prefix(b"g")?)?).ok()?;
-    (variable < NAMED_VARIABLES).then_some(FIRST_VARIABLE_CODE + variable)
+    (variable < NAMED_VARIABLES).then_some(schemes.first_variable() + variable)
 }
 
-/// Reads one of the six schemes; PLAIN is not a scheme.
-fn scheme(field: &[u8]) -> Option<Qualifier> {
-    Qualifier::of_word(field).filter(|&qualifier| qualifier != Qualifier::Plain)
+/// Reads a scheme's word; PLAIN is not a scheme.
+fn scheme_code(schemes: &SchemeTable, field: &[u8]) -> Option<Code> {
+    schemes.of_word(field).filter(|&code| code != PLAIN)
 }
 
 /// Reads a number from 0 to 65535.

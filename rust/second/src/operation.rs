@@ -1,4 +1,4 @@
-//! The five operations, the highest scheme of each, and the qualifier of its result.
+//! The five operations, the highest of the six schemes for each, and the qualifier of its result.
 
 use crate::qualifier::Qualifier;
 use crate::word::capitals;
@@ -45,7 +45,7 @@ impl Operation {
         Self::ALL.into_iter().find(|operation| operation.word().as_bytes() == word)
     }
 
-    /// The highest scheme that supports this operation.
+    /// The highest of the six schemes that supports this operation, in document 01's own words.
     pub fn highest_scheme(self) -> Qualifier {
         match self {
             Operation::Add => Qualifier::Ah,

@@ -5,7 +5,7 @@ use crate::table::{Answer, Table};
 
 /// What `place` prints when its standard input is this text.
 pub fn place(text: &[u8]) -> Vec<u8> {
-    let table = match filled(text) {
+    let table = match filled(Table::fresh(), text) {
         Ok(table) => table,
         Err((number, line)) => return format!("X,{number},{line}\n").into_bytes(),
     };
@@ -30,7 +30,23 @@ pub fn entry(text: &[u8], buffer: &mut [u8]) -> u32 {
     if buffer.len() < LONGEST_REPORT {
         return 11_000;
     }
-    let table = match filled(text) {
+    entry_on(Table::fresh(), text, buffer)
+}
+
+/// What the C entry would return under a scheme file: 25,000, 26,000 or 27,000 where the file is refused, before any line is read.
+pub fn entry_under(file: &[u8], text: &[u8], buffer: &mut [u8]) -> u32 {
+    if buffer.len() < LONGEST_REPORT {
+        return 11_000;
+    }
+    match Table::fresh_under(file) {
+        (fresh, 0) => entry_on(fresh, text, buffer),
+        (_, number) => number * 1_000,
+    }
+}
+
+/// What an entry returns for a text on a fresh table and a buffer that is long enough.
+fn entry_on(fresh: Table, text: &[u8], buffer: &mut [u8]) -> u32 {
+    let table = match filled(fresh, text) {
         Ok(table) => table,
         Err((number, line)) => return number * 1_000 + line,
     };
@@ -41,9 +57,8 @@ pub fn entry(text: &[u8], buffer: &mut [u8]) -> u32 {
     100_000 + length
 }
 
-/// The table after all lines are added, or the first refusal's number and line from 1.
-fn filled(text: &[u8]) -> Result<Table, (u32, u32)> {
-    let mut table = Table::fresh();
+/// The table after all lines are added to it, or the first refusal's number and line from 1.
+fn filled(mut table: Table, text: &[u8]) -> Result<Table, (u32, u32)> {
     for (number, line) in (1..).zip(lines(text)) {
         let refusal = table.add(line);
         if refusal != 0 {

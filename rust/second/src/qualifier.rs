@@ -1,4 +1,6 @@
-//! The seven qualifiers, their order, and greatest lower bounds derived from the order.
+//! The seven qualifiers of document 01, their order, and greatest lower bounds derived from the order.
+//!
+//! Nothing is solved with them: they say in the document's own words what the scheme table of the built-in six is.
 
 use crate::word::capitals;
 
@@ -26,10 +28,10 @@ use Qualifier::{Ah, Det, Fhe, Mh, Op, Plain, Rand};
 /// The number of named qualifier variables, `g0` to `g63`.
 pub const NAMED_VARIABLES: u8 = 64;
 
-/// The code of the variable `g0`; the seven qualifiers have the codes below it.
+/// The code of the variable `g0` under the built-in six; the seven qualifiers have the codes below it.
 pub const FIRST_VARIABLE_CODE: u8 = 7;
 
-/// The greatest code that a declared qualifier can have, that of `g63`.
+/// The greatest code that a declared qualifier can have under the built-in six, that of `g63`.
 pub const GREATEST_CODE: u8 = FIRST_VARIABLE_CODE + NAMED_VARIABLES - 1;
 
 /// The pairs (lower, upper) that define the order; all others follow from them.

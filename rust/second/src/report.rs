@@ -1,28 +1,30 @@
 //! The report's bytes.
 
+use crate::schemes::SchemeTable;
 use crate::typing::{Judgement, Shape, Slot};
 
 /// A length that no report exceeds; a report buffer has at least this length.
 pub const LONGEST_REPORT: usize = 6280;
 
-/// The report of a program that has a typing.
-pub fn bytes(judgement: &Judgement) -> Vec<u8> {
+/// The report of a program that has a typing, in the words of its scheme table.
+pub fn bytes(schemes: &SchemeTable, judgement: &Judgement) -> Vec<u8> {
     let mut report = format!("OK,{},{}\n", judgement.params.len(), judgement.terms.len());
-    for (variable, word) in &judgement.variables {
-        report += &format!("G,{},{}\n", variable, word.word());
+    for &(variable, word) in &judgement.variables {
+        report += &format!("G,{},{}\n", variable, schemes.word(word));
     }
     for (number, slot) in judgement.params.iter().enumerate() {
-        report += &slot_line('P', number, slot);
+        report += &slot_line(schemes, 'P', number, slot);
     }
     for (number, slot) in judgement.terms.iter().enumerate() {
-        report += &slot_line('E', number, slot);
+        report += &slot_line(schemes, 'E', number, slot);
     }
     report.into_bytes()
 }
 
 /// The line of a parameter or a term row.
-fn slot_line(list: char, number: usize, slot: &Slot) -> String {
-    format!("{},{},{},{}\n", list, number, slot.word.word(), shape_word(slot.shape))
+fn slot_line(schemes: &SchemeTable, list: char, number: usize, slot: &Slot) -> String {
+    let (word, shape) = (schemes.word(slot.word), shape_word(slot.shape));
+    format!("{list},{number},{word},{shape}\n")
 }
 
 /// The word that stands for a shape in a report.

@@ -1,13 +1,13 @@
 //! The entries of the three lists: type rows, parameters and term rows.
 
 use crate::operation::Operation;
-use crate::qualifier::Qualifier;
+use crate::schemes::Code;
 
 /// A declared qualifier with a type row.
 #[derive(Clone, Copy, Debug, PartialEq, Eq)]
 pub struct QualifiedRow {
-    /// Code of the qualifier: 0 to 6 the qualifiers, 7 to 70 the variables `g0` to `g63`.
-    pub qualifier: u8,
+    /// The qualifier: PLAIN, a scheme or a named variable.
+    pub qualifier: Code,
     /// Number of the type row.
     pub type_row: u16,
 }
@@ -31,12 +31,12 @@ pub enum TypeRow {
 /// An entry of the list of parameters.
 #[derive(Clone, Copy, Debug, PartialEq, Eq)]
 pub struct Parameter {
-    /// Code of the present qualifier, as in a [`QualifiedRow`].
-    pub qualifier: u8,
+    /// The present qualifier, as in a [`QualifiedRow`].
+    pub qualifier: Code,
     /// Number of the type row.
     pub type_row: u16,
-    /// The weakest qualifier that its owner tolerates; all are at or above PLAIN.
-    pub floor: Qualifier,
+    /// The weakest qualifier that its owner tolerates, never a variable; all are at or above PLAIN.
+    pub floor: Code,
 }
 
 /// An entry of the list of term rows.
@@ -77,8 +77,8 @@ pub enum Term {
     },
     /// `ENC`: an encrypted number.
     Encrypted {
-        /// One of the six schemes, never PLAIN.
-        scheme: Qualifier,
+        /// A scheme, never PLAIN or a named variable.
+        scheme: Code,
         /// The number.
         value: u32,
     },

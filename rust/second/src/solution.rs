@@ -3,7 +3,7 @@
 //! Types are numbered nodes, so a type that is used many times is stored and compared once.
 
 use crate::classes::{Classes, Element};
-use crate::qualifier::Qualifier;
+use crate::schemes::{Code, SchemeTable};
 
 /// The number of a type node.
 pub type TypeId = usize;
@@ -50,19 +50,19 @@ enum TypeNode {
 }
 
 /// The equations taken so far in solved form. No type contains itself at any time.
-pub struct Solution {
+pub struct Solution<'a> {
     strength: Strength,
     types: Vec<TypeNode>,
-    classes: Classes,
+    classes: Classes<'a>,
 }
 
-impl Solution {
+impl<'a> Solution<'a> {
     /// The node of the type INT.
     pub const INT: TypeId = 0;
 
-    /// The solution of no equations.
-    pub fn new(strength: Strength) -> Solution {
-        Solution { strength, types: vec![TypeNode::Int], classes: Classes::new() }
+    /// The solution of no equations between the qualifiers of a scheme table.
+    pub fn new(schemes: &'a SchemeTable, strength: Strength) -> Solution<'a> {
+        Solution { strength, types: vec![TypeNode::Int], classes: Classes::new(schemes) }
     }
 
     /// A new unknown type.
@@ -97,7 +97,7 @@ impl Solution {
     }
 
     /// Keeps a qualifier at or below a scheme; false if that leaves no solution.
-    pub fn limit(&mut self, qualifier: Element, scheme: Qualifier) -> bool {
+    pub fn limit(&mut self, qualifier: Element, scheme: Code) -> bool {
         self.strength != Strength::Full || self.classes.limit(qualifier, scheme)
     }
 
@@ -123,7 +123,7 @@ impl Solution {
     }
 
     /// The greatest qualifier that a solution gives to an element.
-    pub fn greatest(&self, qualifier: Element) -> Qualifier {
+    pub fn greatest(&self, qualifier: Element) -> Code {
         self.classes.greatest(qualifier)
     }
 

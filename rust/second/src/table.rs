@@ -1,14 +1,16 @@
-//! The table of three lists and its four calls.
+//! The table of three lists under a scheme table, and its four calls.
 
 use crate::line;
-use crate::qualifier::{at_or_below, GREATEST_CODE};
 use crate::report;
 use crate::rows::{Entry, Parameter, Term, TypeRow};
+use crate::schemes::SchemeTable;
 use crate::typing::{self, Judgement};
 
-/// The three lists. Entries come in only by [`Table::add`], so every reference is valid.
-#[derive(Clone, Debug, Default, PartialEq, Eq)]
+/// The three lists beside the scheme table. Entries come in only by [`Table::add`], so every reference is valid.
+#[derive(Clone, Debug, PartialEq, Eq)]
 pub struct Table {
+    /// The scheme table, which no call changes.
+    schemes: SchemeTable,
     /// The type rows.
     pub types: Vec<TypeRow>,
     /// The parameters with their present qualifiers and their floors.
@@ -36,14 +38,32 @@ impl Table {
     /// The most term rows that a table holds.
     pub const TERM_LIMIT: usize = 256;
 
-    /// The table whose lists are empty.
+    /// The table of the built-in six whose lists are empty.
     pub fn fresh() -> Table {
-        Table::default()
+        Table::fresh_of(SchemeTable::six().clone())
+    }
+
+    /// The table of a scheme file whose lists are empty, and 0; or the refusal's number with a fresh table of the six.
+    pub fn fresh_under(file: &[u8]) -> (Table, u32) {
+        match SchemeTable::open(file) {
+            Ok(schemes) => (Table::fresh_of(schemes), 0),
+            Err(number) => (Table::fresh(), number),
+        }
+    }
+
+    /// The table of a scheme table whose lists are empty.
+    pub fn fresh_of(schemes: SchemeTable) -> Table {
+        Table { schemes, types: vec![], params: vec![], terms: vec![] }
+    }
+
+    /// The scheme table that this table holds.
+    pub fn schemes(&self) -> &SchemeTable {
+        &self.schemes
     }
 
     /// Appends the entry that a line declares; returns 0 or the refusal's number.
     pub fn add(&mut self, line: &[u8]) -> u32 {
-        let Some(entry) = line::read(line) else {
+        let Some(entry) = line::read_under(&self.schemes, line) else {
             return 1;
         };
         let refusal = self.refusal(&entry);
@@ -64,7 +84,7 @@ impl Table {
             return 5;
         };
         match u8::try_from(code) {
-            Ok(code) if code <= GREATEST_CODE => {
+            Ok(code) if code <= self.schemes.last_variable() => {
                 declared.qualifier = code;
                 0
             }
@@ -96,7 +116,7 @@ impl Table {
         if let Some(parameter) = self.missed_floors(&judgement).next() {
             return refused(24, parameter as u32);
         }
-        let report = report::bytes(&judgement);
+        let report = report::bytes(&self.schemes, &judgement);
         buffer[..report.len()].copy_from_slice(&report);
         Answer { number: 0, row: 0, length: report.len() as u32 }
     }
@@ -106,7 +126,9 @@ impl Table {
         &'a self,
         judgement: &'a Judgement,
     ) -> impl Iterator<Item = usize> + 'a {
-        let met = |own: usize| at_or_below(self.params[own].floor, judgement.params[own].word);
+        let met = |own: usize| {
+            self.schemes.at_or_below(self.params[own].floor, judgement.params[own].word)
+        };
         (0..self.params.len()).filter(move |&own| !met(own))
     }
 

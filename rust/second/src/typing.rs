@@ -1,8 +1,9 @@
 //! The typing rules as equations, the least row without a typing, and the greatest words.
 
 use crate::operation::Operation;
-use crate::qualifier::{Qualifier, FIRST_VARIABLE_CODE, NAMED_VARIABLES};
+use crate::qualifier::NAMED_VARIABLES;
 use crate::rows::{Parameter, QualifiedRow, Term, TypeRow};
+use crate::schemes::{Code, PLAIN};
 use crate::solution::{Qualified, Solution, TypeId};
 use crate::table::Table;
 
@@ -12,7 +13,7 @@ pub use crate::solution::{Shape, Strength};
 #[derive(Clone, Copy, Debug, PartialEq, Eq)]
 pub struct Slot {
     /// The greatest qualifier that a typing gives.
-    pub word: Qualifier,
+    pub word: Code,
     /// The shape that the typings give.
     pub shape: Shape,
 }
@@ -21,7 +22,7 @@ pub struct Slot {
 #[derive(Clone, Debug, PartialEq, Eq)]
 pub struct Judgement {
     /// The number and the word of each named variable that stands in the lines, rising.
-    pub variables: Vec<(u8, Qualifier)>,
+    pub variables: Vec<(u8, Code)>,
     /// The parameters in their order.
     pub params: Vec<Slot>,
     /// The term rows in their order.
@@ -70,7 +71,7 @@ fn solve(table: &Table, rows: usize, strength: Strength) -> Result<Inference<'_>
 /// The solution for the lines taken so far, with the places of the lines in it.
 struct Inference<'a> {
     table: &'a Table,
-    solution: Solution,
+    solution: Solution<'a>,
     type_rows: Vec<TypeId>,
     terms: Vec<Qualified>,
 }
@@ -80,7 +81,7 @@ impl<'a> Inference<'a> {
     fn of_declarations(table: &'a Table, strength: Strength) -> Inference<'a> {
         let mut inference = Inference {
             table,
-            solution: Solution::new(strength),
+            solution: Solution::new(table.schemes(), strength),
             type_rows: vec![],
             terms: vec![],
         };
@@ -123,7 +124,7 @@ impl<'a> Inference<'a> {
             Term::Lambda { parameter, body } => {
                 let (argument, result) = (self.parameter(parameter), self.term(body));
                 let arrow = self.solution.arrow(argument, result);
-                Some(constant(Qualifier::Plain, arrow))
+                Some(constant(PLAIN, arrow))
             }
             Term::Apply { function, argument } => self.apply(function, argument),
             Term::Operate { operation, left, right } => self.operate(operation, left, right),
@@ -146,13 +147,14 @@ impl<'a> Inference<'a> {
     /// The rule of OP: both operands are INT under one qualifier that supports the operation.
     fn operate(&mut self, operation: Operation, left: u16, right: u16) -> Option<Qualified> {
         let (left, right) = (self.term(left), self.term(right));
+        let highest = self.table.schemes().highest(operation);
         let solved = self.solution.equate_types(left.type_id, Solution::INT)
             && self.solution.equate(left, right)
-            && self.solution.limit(left.qualifier, operation.highest_scheme());
+            && self.solution.limit(left.qualifier, highest);
         let result = if operation.keeps_qualifier() {
             Qualified { qualifier: left.qualifier, type_id: Solution::INT }
         } else {
-            constant(Qualifier::Plain, Solution::INT)
+            constant(PLAIN, Solution::INT)
         };
         solved.then_some(result)
     }
@@ -164,7 +166,7 @@ impl<'a> Inference<'a> {
             shape: self.solution.shape(qualified.type_id),
         };
         let word = |variable: u8| {
-            let code = FIRST_VARIABLE_CODE + variable;
+            let code = self.table.schemes().first_variable() + variable;
             (variable, self.solution.greatest(usize::from(code)))
         };
         let params = self.table.params.iter();
@@ -177,16 +179,15 @@ impl<'a> Inference<'a> {
 }
 
 /// A type under a qualifier that the rules fix.
-fn constant(qualifier: Qualifier, type_id: TypeId) -> Qualified {
-    Qualified { qualifier: usize::from(qualifier.code()), type_id }
+fn constant(qualifier: Code, type_id: TypeId) -> Qualified {
+    Qualified { qualifier: usize::from(qualifier), type_id }
 }
 
 /// The named variables in any T line or in a parameter's present qualifier, rising.
 fn standing_variables(table: &Table) -> Vec<u8> {
     let in_types = table.types.iter().flat_map(TypeRow::parts);
     let declared = in_types.chain(table.params.iter().map(Parameter::declared));
-    let codes: Vec<u8> = declared.map(|row| row.qualifier).collect();
-    (0..NAMED_VARIABLES)
-        .filter(|variable| codes.contains(&(FIRST_VARIABLE_CODE + variable)))
-        .collect()
+    let codes: Vec<Code> = declared.map(|row| row.qualifier).collect();
+    let first = table.schemes().first_variable();
+    (0..NAMED_VARIABLES).filter(|variable| codes.contains(&(first + variable))).collect()
 }

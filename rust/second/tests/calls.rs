@@ -5,6 +5,7 @@ mod common;
 use common::{add_all, assert_prints, assert_refused, table};
 use second::qualifier::Qualifier;
 use second::rows::Parameter;
+use second::schemes::PLAIN;
 use second::typing::judge;
 use second::{Answer, Table};
 
@@ -229,7 +230,7 @@ fn redeclare_checks_the_parameter_before_the_code() {
 #[test]
 fn redeclare_replaces_one_qualifier() {
     let mut table = table("T,0,INT P,0,AH,0 P,1,g3,0");
-    let declared = |qualifier| Parameter { qualifier, type_row: 0, floor: Qualifier::Plain };
+    let declared = |qualifier| Parameter { qualifier, type_row: 0, floor: PLAIN };
     for code in 0..=70 {
         assert_eq!(table.redeclare(1, code.into()), 0);
         assert_eq!(table.params, [declared(5), declared(code)]);
@@ -241,6 +242,7 @@ fn redeclare_leaves_type_row_and_floor() {
     let mut table = table("T,0,INT T,1,ANY P,0,AH,1,DET P,1,g3,0 P,2,g3,1,RAND");
     let before = table.clone();
     for (parameter, floor) in [(0, Qualifier::Det), (1, Qualifier::Plain), (2, Qualifier::Rand)] {
+        let floor = floor.code();
         let Parameter { qualifier, type_row, .. } = before.params[parameter];
         for code in 0..=70 {
             assert_eq!(table.redeclare(parameter as u64, code.into()), 0);
@@ -260,11 +262,11 @@ fn inference_uses_present_qualifiers() {
     assert_eq!(table.redeclare(0, 1), 0);
     let judgement = judge(&table).unwrap();
     assert!(judgement.variables.is_empty());
-    assert_eq!(judgement.params[0].word.word(), "FHE");
+    assert_eq!(table.schemes().word(judgement.params[0].word), "FHE");
     assert_eq!(table.redeclare(0, 70), 0);
     let variables = judge(&table).unwrap().variables;
     assert_eq!(variables.len(), 1);
-    assert_eq!((variables[0].0, variables[0].1.word()), (63, "AH"));
+    assert_eq!((variables[0].0, table.schemes().word(variables[0].1)), (63, "AH"));
 }
 
 #[test]

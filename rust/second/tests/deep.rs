@@ -119,7 +119,8 @@ fn a_number_follows_an_argument_in_the_same_place() {
         (["ENC,MH,1", "NUM,1"], Qualifier::Mh),
     ] {
         let words = [2, 4, 246, 248].map(|row: usize| judged(last).terms[row].word);
-        assert_eq!(words, [Qualifier::Rand, Qualifier::Rand, word, word]);
+        let expected = [Qualifier::Rand, Qualifier::Rand, word, word];
+        assert_eq!(words, expected.map(Qualifier::code));
     }
 }
 

@@ -6,6 +6,7 @@ use common::{add_all, assert_inferred, assert_prints, table, text};
 use second::generate::{closed_program, program_with_floors, text_of_table, Random};
 use second::place::inferred;
 use second::qualifier::Qualifier;
+use second::schemes::PLAIN;
 use second::typing::judge;
 use second::{place, Answer, Table};
 
@@ -46,7 +47,7 @@ fn assert_refusal(table: &Table, number: u32, row: u32) {
 /// The same table with every floor PLAIN.
 fn without_floors(table: &Table) -> Table {
     let mut without = table.clone();
-    without.params.iter_mut().for_each(|parameter| parameter.floor = Qualifier::Plain);
+    without.params.iter_mut().for_each(|parameter| parameter.floor = PLAIN);
     without
 }
 
@@ -202,7 +203,7 @@ fn a_redeclaration_misses_and_meets_a_floor() {
     for (code, expected) in cases {
         assert_eq!(table.redeclare(0, code), 0);
         assert_inferred(&table, expected);
-        assert_eq!(table.params[0].floor, Qualifier::Ah);
+        assert_eq!(table.params[0].floor, Qualifier::Ah.code());
     }
     // Refused redeclarations leave the floor and the qualifier.
     assert_eq!((table.redeclare(0, 71), table.redeclare(1, 0)), (12, 5));
@@ -273,8 +274,8 @@ fn each_floor_alone_decides_for_its_parameter() {
         let report = inferred(&table);
         for (own, slot) in judgement.params.iter().enumerate() {
             for (floor, (_, met_by)) in Qualifier::ALL.into_iter().zip(AT_OR_ABOVE) {
-                table.params[own].floor = floor;
-                if met_by.contains(&slot.word.word()) {
+                table.params[own].floor = floor.code();
+                if met_by.contains(&table.schemes().word(slot.word)) {
                     assert_eq!(inferred(&table), report);
                     met += 1;
                 } else {
@@ -282,7 +283,7 @@ fn each_floor_alone_decides_for_its_parameter() {
                     missed += 1;
                 }
             }
-            table.params[own].floor = Qualifier::Plain;
+            table.params[own].floor = PLAIN;
         }
     }
     assert!(met > 200 && missed > 200, "{met} {missed}");

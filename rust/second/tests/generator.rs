@@ -12,8 +12,9 @@ use second::operation::Operation;
 use second::place::{inferred, lines};
 use second::qualifier::{at_or_below, Qualifier};
 use second::rows::{Entry, TypeRow};
+use second::schemes::{Code, PLAIN};
 use second::typing::{judge, Shape};
-use second::{entry, place, Answer, Table};
+use second::{entry, place, Answer, SchemeTable, Table};
 use std::collections::BTreeMap;
 
 /// The answers to closed programs: accepted, or the number of a refusal.
@@ -139,7 +140,7 @@ fn each_floor_stands_under_each_word() {
         let accepted = number(&table) == 0;
         for (parameter, slot) in table.params.iter().zip(&judgement.params) {
             let counts = if accepted { &mut met } else { &mut missed };
-            *counts.entry((parameter.floor.code(), slot.word.code())).or_insert(0) += 1;
+            *counts.entry((parameter.floor, slot.word)).or_insert(0) += 1;
         }
     }
     for floor in Qualifier::ALL {
@@ -160,7 +161,7 @@ fn floors_are_all_that_is_added_to_a_program() {
         assert_eq!(with.redeclarations, without.redeclarations);
         assert_eq!(with.lines.len(), without.lines.len());
         let mut table = with.table();
-        table.params.iter_mut().for_each(|parameter| parameter.floor = Qualifier::Plain);
+        table.params.iter_mut().for_each(|parameter| parameter.floor = PLAIN);
         assert_eq!(table, without.table());
     }
 }
@@ -217,7 +218,7 @@ fn the_features_occur() {
             Ok(judgement) => {
                 let slots = judgement.params.iter().chain(&judgement.terms);
                 free += usize::from(slots.clone().any(|slot| slot.shape == Shape::Any));
-                slots.for_each(|slot| *words.entry(slot.word.word()).or_insert(0) += 1);
+                slots.for_each(|slot| *words.entry(slot.word).or_insert(0) += 1);
             }
             Err(refusal) => *rows.entry(refusal.row).or_insert(0) += 1,
         }
@@ -241,9 +242,10 @@ fn numbers_stand_everywhere() {
     }
     numbers.places.assert_each(Place::all(), 60);
     numbers.places.assert_each(Place::operands(), 400);
-    numbers.partners.assert_each(Partner::all(), 40);
-    numbers.words.assert_each(Qualifier::ALL.map(Qualifier::word), 200);
-    numbers.operand_words.assert_each(possible_words(), 15);
+    let six = SchemeTable::six();
+    numbers.partners.assert_each(Partner::all(six), 40);
+    numbers.words.assert_each(six.words(), 200);
+    numbers.operand_words.assert_each(possible_words(six), 15);
     numbers.different_words.assert_each(2..=4, 50);
 }
 
@@ -440,7 +442,7 @@ fn changed_lines_of_parameters_stay_well_formed() {
         let Some(Entry::P(1, parameter)) = read(&changed) else {
             panic!("{} is not read", changed.escape_ascii());
         };
-        *floors.entry(parameter.floor.word()).or_insert(0) += 1;
+        *floors.entry(parameter.floor).or_insert(0) += 1;
         assert!(read(&changed_line(&mut random, b"P,1,AH,7")).is_some());
     }
     assert!(floors.len() == 7 && floors.values().all(|&count| count > 50), "{floors:?}");
@@ -642,7 +644,7 @@ impl Turns {
         let (mut table, mut before, mut redeclared_only) = (Table::fresh(), None, false);
         let (mut missed, mut met) = (0, 0);
         for call in calls {
-            let floors: Vec<Qualifier> = table.params.iter().map(|it| it.floor).collect();
+            let floors: Vec<Code> = table.params.iter().map(|it| it.floor).collect();
             let number = make(&mut table, call);
             match call {
                 Call::Redeclare(..) => {

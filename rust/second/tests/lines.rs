@@ -31,9 +31,10 @@ fn type_rows_are_read() {
 
 #[test]
 fn parameters_are_read() {
-    let parameter = Parameter { qualifier: 6, type_row: 9, floor: Qualifier::Plain };
+    let parameter = Parameter { qualifier: 6, type_row: 9, floor: Qualifier::Plain.code() };
     assert_eq!(read(b"P,3,RAND,9"), Some(Entry::P(3, parameter)));
-    let parameter = Parameter { qualifier: 70, type_row: 65535, floor: Qualifier::Det };
+    let floor = Qualifier::Det.code();
+    let parameter = Parameter { qualifier: 70, type_row: 65535, floor };
     assert_eq!(read(b"P,65535,g63,65535,DET"), Some(Entry::P(65535, parameter)));
 }
 
@@ -46,7 +47,7 @@ fn a_floor_is_one_of_the_seven_words() {
             let Some(Entry::P(1, parameter)) = read(line.as_bytes()) else {
                 panic!("{line} is not read");
             };
-            assert_eq!(parameter.floor.code(), expected);
+            assert_eq!(parameter.floor, expected);
             assert_eq!(parameter.declared(), QualifiedRow { qualifier: code, type_row: 2 });
         }
     }
@@ -89,7 +90,7 @@ fn term_rows_are_read() {
     assert_eq!(read(b"E,1,VAR,2"), Some(Entry::E(1, variable)));
     let number = Term::Number { value: 4294967295 };
     assert_eq!(read(b"E,1,NUM,4294967295"), Some(Entry::E(1, number)));
-    let encrypted = Term::Encrypted { scheme: Qualifier::Fhe, value: 0 };
+    let encrypted = Term::Encrypted { scheme: Qualifier::Fhe.code(), value: 0 };
     assert_eq!(read(b"E,1,ENC,FHE,0"), Some(Entry::E(1, encrypted)));
 }
 
@@ -126,7 +127,7 @@ fn only_the_six_schemes_encrypt() {
         let Some(Entry::E(0, Term::Encrypted { scheme, value: 5 })) = read(line.as_bytes()) else {
             panic!("{word} is not read");
         };
-        assert_eq!(scheme.code(), expected);
+        assert_eq!(scheme, expected);
     }
     assert_unread(&["E,0,ENC,PLAIN,5", "E,0,ENC,g0,5", "E,0,ENC,NUM,5", "E,0,ENC,,5"]);
 }

@@ -7,6 +7,7 @@ use second::counts::Counts;
 use second::generate::{closed_program, Random};
 use second::qualifier::{at_or_below, Qualifier};
 use second::rows::Term;
+use second::schemes::Code;
 use second::typing::{judge, Judgement, NoTyping};
 use second::Table;
 
@@ -176,7 +177,7 @@ fn fixed_tables(table: &Table) -> Vec<Table> {
         let fixed = |table: Table| {
             Qualifier::ALL.map(|scheme| {
                 let mut fixed = table.clone();
-                fixed.terms[row] = Term::Encrypted { scheme, value: 1 };
+                fixed.terms[row] = Term::Encrypted { scheme: scheme.code(), value: 1 };
                 fixed
             })
         };
@@ -187,11 +188,13 @@ fn fixed_tables(table: &Table) -> Vec<Table> {
 
 /// Tells whether all words of a judgement are at or below those of another.
 fn all_at_or_below(lower: &Judgement, upper: &Judgement) -> bool {
-    let words = |judgement: &Judgement| -> Vec<Qualifier> {
+    let words = |judgement: &Judgement| -> Vec<Code> {
         let slots = judgement.params.iter().chain(&judgement.terms).map(|slot| slot.word);
         judgement.variables.iter().map(|&(_, word)| word).chain(slots).collect()
     };
-    words(lower).into_iter().zip(words(upper)).all(|(lower, upper)| at_or_below(lower, upper))
+    let qualifier = |code: Code| Qualifier::ALL[usize::from(code)];
+    let mut pairs = words(lower).into_iter().zip(words(upper));
+    pairs.all(|(lower, upper)| at_or_below(qualifier(lower), qualifier(upper)))
 }
 
 /// The judgement that is the greatest of several, if there are any.

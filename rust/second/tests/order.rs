@@ -2,7 +2,8 @@
 
 use second::operation::Operation;
 use second::qualifier::Qualifier::{self, Ah, Det, Fhe, Mh, Op, Plain, Rand};
-use second::qualifier::{at_or_below, meet};
+use second::qualifier::{at_or_below, meet, FIRST_VARIABLE_CODE, GREATEST_CODE};
+use second::SchemeTable;
 
 /// For each qualifier, those at or below it.
 const LOWER: [(Qualifier, &[Qualifier]); 7] = [
@@ -74,4 +75,39 @@ fn operations_have_their_highest_schemes() {
     assert_eq!(highest, [Ah, Mh, Det, Op, Op]);
     let keeps = Operation::ALL.map(Operation::keeps_qualifier);
     assert_eq!(keeps, [true, true, false, false, false]);
+}
+
+#[test]
+fn the_scheme_table_of_the_six_has_the_documents_order() {
+    let six = SchemeTable::six();
+    for left in Qualifier::ALL {
+        for right in Qualifier::ALL {
+            let (one, other) = (left.code(), right.code());
+            assert_eq!(six.at_or_below(one, other), at_or_below(left, right));
+            assert_eq!(six.meet(one, other), meet(left, right).code());
+        }
+    }
+    assert_eq!(six.greatest(), Rand.code());
+    for operation in Operation::ALL {
+        let highest = operation.highest_scheme();
+        assert_eq!(six.highest(operation), highest.code());
+        // A scheme supports what it is at or below the highest scheme of.
+        for scheme in &Qualifier::ALL[1..] {
+            assert_eq!(six.supports(scheme.code(), operation), at_or_below(*scheme, highest));
+        }
+    }
+}
+
+#[test]
+fn the_scheme_table_of_the_six_has_the_documents_codes() {
+    let six = SchemeTable::six();
+    assert!(six.qualifiers().eq(Qualifier::ALL.map(Qualifier::code)));
+    assert!(six.schemes().eq(1..=6));
+    assert_eq!(six.words(), Qualifier::ALL.map(Qualifier::word));
+    for qualifier in Qualifier::ALL {
+        assert_eq!(six.word(qualifier.code()), qualifier.word());
+        assert_eq!(six.of_word(qualifier.word().as_bytes()), Some(qualifier.code()));
+    }
+    assert_eq!((six.first_variable(), six.last_variable()), (FIRST_VARIABLE_CODE, GREATEST_CODE));
+    assert_eq!((six.first_variable(), six.last_variable()), (7, 70));
 }

@@ -110,7 +110,8 @@ fn bounds_of_one_class_meet() {
                 "T,0,ANY P,0,g0,0 E,0,VAR,0 E,1,VAR,0 E,2,OP,{first},0,1
                  E,3,VAR,0 E,4,VAR,0 E,5,OP,{second},3,4"
             ));
-            assert_eq!(judge(&table).unwrap().params[0].word.word(), word);
+            let found = judge(&table).unwrap().params[0].word;
+            assert_eq!(table.schemes().word(found), word);
         }
     }
 }
@@ -246,7 +247,7 @@ fn results_of_unknown_functions_take_constants() {
 #[test]
 fn open_programs_can_be_judged_too() {
     let judged = judge(&table("T,0,ANY P,0,g0,0 E,0,VAR,0 E,1,NUM,1 E,2,NUM,1"));
-    assert_eq!(judged.unwrap().terms[0].word, Qualifier::Rand);
+    assert_eq!(judged.unwrap().terms[0].word, Qualifier::Rand.code());
     let judged = judge(&table("E,0,NUM,1 E,1,NUM,1 E,2,APP,0,1 E,3,NUM,1"));
     assert_eq!(judged, Err(NoTyping { number: 21, row: 2 }));
 }

@@ -89,11 +89,13 @@ fn each_form_is_read_in_small_letters() {
     assert_eq!(read(b"T,3,int"), Some(Entry::T(3, TypeRow::Int)));
     assert_eq!(read(b"T,3,any"), Some(Entry::T(3, TypeRow::Any)));
     assert_eq!(read(b"T,3,arrow,plain,0,rand,1"), Some(Entry::T(3, arrow)));
-    let parameter = |floor| Entry::P(3, Parameter { qualifier: 5, type_row: 1, floor });
+    let parameter = |floor: Qualifier| {
+        Entry::P(3, Parameter { qualifier: 5, type_row: 1, floor: floor.code() })
+    };
     assert_eq!(read(b"P,3,ah,1"), Some(parameter(Qualifier::Plain)));
     assert_eq!(read(b"P,3,ah,1,det"), Some(parameter(Qualifier::Det)));
     let operate = Term::Operate { operation: Operation::Gt, left: 1, right: 2 };
-    let encrypted = Term::Encrypted { scheme: Qualifier::Op, value: 7 };
+    let encrypted = Term::Encrypted { scheme: Qualifier::Op.code(), value: 7 };
     let terms = [
         ("E,3,lam,1,2", Term::Lambda { parameter: 1, body: 2 }),
         ("E,3,app,1,2", Term::Apply { function: 1, argument: 2 }),

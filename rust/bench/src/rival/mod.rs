@@ -43,6 +43,6 @@ pub fn infer(solver: &mut Solver, slots: &mut Slots, table: &Table, buffer: &mut
 /// The lowest parameter whose word is not at or above its floor.
 fn missed_floor(table: &Table, slots: &Slots) -> Option<u32> {
     let mut params = table.params.iter().zip(&slots.params);
-    let missed = params.position(|(param, slot)| !at_or_below(param.floor.code(), slot.word));
+    let missed = params.position(|(param, slot)| !at_or_below(param.floor, slot.word));
     missed.map(|parameter| parameter as u32)
 }

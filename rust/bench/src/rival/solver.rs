@@ -3,8 +3,9 @@
 use super::qualifiers::Qualifiers;
 use super::types::{Failure, Kind, Node, Qualified, Types, INT};
 use second::operation::Operation;
-use second::qualifier::{Qualifier, FIRST_VARIABLE_CODE, NAMED_VARIABLES};
+use second::qualifier::{FIRST_VARIABLE_CODE, NAMED_VARIABLES};
 use second::rows::{QualifiedRow, Term, TypeRow};
+use second::schemes::{Code, PLAIN};
 use second::Table;
 
 /// The word of a named variable that stands in no line.
@@ -133,7 +134,7 @@ impl Solver {
         Ok(match term {
             Term::Lambda { parameter: own, body } => {
                 let node = self.types.fresh_arrow(parameter(own), self.rows[usize::from(body)]);
-                constant(Qualifier::Plain, node)
+                constant(PLAIN, node)
             }
             Term::Apply { function, argument } => {
                 let function = self.rows[usize::from(function)];
@@ -184,7 +185,7 @@ impl Solver {
         self.within_bounds()?;
         Ok(match operation.keeps_qualifier() {
             true => Qualified { qualifier: left.qualifier, node: INT },
-            false => constant(Qualifier::Plain, INT),
+            false => constant(PLAIN, INT),
         })
     }
 
@@ -245,6 +246,6 @@ fn declared(row: QualifiedRow) -> Qualified {
 }
 
 /// A type under a qualifier that the rules fix.
-fn constant(qualifier: Qualifier, node: Node) -> Qualified {
-    Qualified { qualifier: qualifier.code().into(), node }
+fn constant(qualifier: Code, node: Node) -> Qualified {
+    Qualified { qualifier: qualifier.into(), node }
 }

@@ -1,11 +1,11 @@
 //! Random lists of calls on one table, accepted and refused.
 
-use super::damage::{any_bytes, changed_line, damaged_line};
-use super::floors::program_with_floors;
+use super::damage::{any_bytes, changed_line_under, damaged_line};
+use super::floors::program_with_floors_under;
 use super::random::Random;
-use crate::qualifier::{at_or_below, Qualifier};
 use crate::report::LONGEST_REPORT;
 use crate::rows::Parameter;
+use crate::schemes::{Code, SchemeTable, PLAIN};
 use crate::table::Table;
 
 /// One call on a table.
@@ -26,9 +26,14 @@ impl Call {
     pub const INFER: Call = Call::Infer(LONGEST_REPORT, 0);
 }
 
-/// Calls that build a program of up to so many rows, with other calls between, accepted and refused.
+/// Calls on a fresh table of the built-in six, as [`call_list_under`] makes them.
 pub fn call_list(random: &mut Random, rows: usize) -> Vec<Call> {
-    let program = program_with_floors(random, rows);
+    call_list_under(random, SchemeTable::six(), rows)
+}
+
+/// Calls that build a program of up to so many rows, with other calls between, accepted and refused.
+pub fn call_list_under(random: &mut Random, schemes: &SchemeTable, rows: usize) -> Vec<Call> {
+    let program = program_with_floors_under(random, schemes, rows);
     let table = program.table();
     let mut calls = vec![];
     let mut rows_added: Vec<Vec<u8>> = vec![];
@@ -37,7 +42,7 @@ pub fn call_list(random: &mut Random, rows: usize) -> Vec<Call> {
         // In long programs few lines name type rows, so other calls are more frequent there.
         let others = if line.starts_with(b"E") { 6 } else { 4 };
         if random.one_in(others) {
-            calls.push(other_call(random, &line));
+            calls.push(other_call(random, schemes, &line));
         }
         if random.one_in(12) {
             calls.extend(taken_back_and_added(random, &rows_added));
@@ -56,18 +61,18 @@ pub fn call_list(random: &mut Random, rows: usize) -> Vec<Call> {
         calls.push(Call::INFER);
     }
     calls.extend(taken_back_and_added(random, &rows_added));
-    calls.push(redeclare(random));
+    calls.push(redeclare(random, schemes));
     calls.push(Call::Infer(random.between(LONGEST_REPORT, LONGEST_REPORT + 40), 255));
     calls
 }
 
 /// A call that is no part of building the program; most are refused.
-fn other_call(random: &mut Random, line: &[u8]) -> Call {
+fn other_call(random: &mut Random, schemes: &SchemeTable, line: &[u8]) -> Call {
     match random.below(5) {
         0 => Call::Add(any_bytes(random, 70)),
         1 => Call::Add(damaged_line(random, line)),
-        2 => Call::Add(changed_line(random, line)),
-        3 => redeclare(random),
+        2 => Call::Add(changed_line_under(random, schemes, line)),
+        3 => redeclare(random, schemes),
         _ => infer(random),
     }
 }
@@ -86,25 +91,26 @@ fn taken_back_and_added(random: &mut Random, rows_added: &[Vec<u8>]) -> Vec<Call
 ///
 /// `None` if every floor is PLAIN, which is always met.
 pub fn lowered_and_restored(random: &mut Random, table: &Table) -> Option<Vec<Call>> {
-    let has_floor = |&own: &usize| table.params[own].floor != Qualifier::Plain;
+    let has_floor = |&own: &usize| table.params[own].floor != PLAIN;
     let candidates: Vec<usize> = (0..table.params.len()).filter(has_floor).collect();
     let &own = random.pick(&candidates)?;
     let Parameter { qualifier, floor, .. } = table.params[own];
-    let misses = |word: &Qualifier| !at_or_below(floor, *word);
-    let lower: Vec<Qualifier> = Qualifier::ALL.into_iter().filter(misses).collect();
-    let redeclare = |code: u8| Call::Redeclare(own as u64, code.into());
-    Some(vec![redeclare(random.pick(&lower)?.code()), Call::INFER, redeclare(qualifier)])
+    let misses = |&word: &Code| !table.schemes().at_or_below(floor, word);
+    let lower: Vec<Code> = table.schemes().qualifiers().filter(misses).collect();
+    let redeclare = |code: Code| Call::Redeclare(own as u64, code.into());
+    Some(vec![redeclare(*random.pick(&lower)?), Call::INFER, redeclare(qualifier)])
 }
 
 /// A redeclaration, mostly with numbers near the limits.
-fn redeclare(random: &mut Random) -> Call {
+fn redeclare(random: &mut Random, schemes: &SchemeTable) -> Call {
     let parameter = match random.below(6) {
         0 => random.number(),
         _ => random.below(66) as u64,
     };
     let code = match random.below(6) {
         0 => random.number(),
-        _ => random.below(73) as u64,
+        // Two codes above the last variable's are refused.
+        _ => random.below(usize::from(schemes.last_variable()) + 3) as u64,
     };
     Call::Redeclare(parameter, code)
 }

@@ -1,10 +1,10 @@
 //! Random closed programs with deep sharing or with a chain of 256 rows.
 
-use super::goals::{any_code, wrong_scheme};
+use super::goals::{any_code, any_word, wrong_scheme};
 use super::random::Random;
 use super::text::{code_text, text_of_lines};
 use crate::operation::Operation;
-use crate::qualifier::Qualifier;
+use crate::schemes::{Code, SchemeTable};
 
 /// How the rows of a chain hang together.
 #[derive(Clone, Copy, PartialEq)]
@@ -17,12 +17,17 @@ enum Join {
     Nested,
 }
 
+/// A program under the built-in six, as [`doubling_under`] makes it.
+pub fn doubling(random: &mut Random) -> Vec<u8> {
+    doubling_under(random, SchemeTable::six())
+}
+
 /// A program of 64 type rows that each use the one before twice.
 ///
 /// Parameter p has type row p. Parameter 63 is applied to 62, the result to 61 and so on, and
 /// what is left of the type is compared with parameter 0 or a number.
-pub fn doubling(random: &mut Random) -> Vec<u8> {
-    let qualifiers = Qualifiers::random(random);
+pub fn doubling_under(random: &mut Random, schemes: &SchemeTable) -> Vec<u8> {
+    let qualifiers = Qualifiers::random(random, schemes);
     let mut lines = String::from(if random.one_in(2) { "T,0,ANY" } else { "T,0,INT" });
     for row in 1..64 {
         let (argument, result) = (qualifiers.text(random), qualifiers.text(random));
@@ -51,13 +56,18 @@ pub fn doubling(random: &mut Random) -> Vec<u8> {
 const ARITHMETIC: [&[Operation]; 3] =
     [&[Operation::Add], &[Operation::Mul], &[Operation::Add, Operation::Mul]];
 
-/// A program of 256 rows: a chain of rows and leaves under LAMs.
+/// A program under the built-in six, as [`chain_under`] makes it.
 pub fn chain(random: &mut Random) -> Vec<u8> {
+    chain_under(random, SchemeTable::six())
+}
+
+/// A program of 256 rows: a chain of rows and leaves under LAMs.
+pub fn chain_under(random: &mut Random, schemes: &SchemeTable) -> Vec<u8> {
     let join = [Join::Operations, Join::Applied, Join::Nested][random.below(3)];
-    let qualifiers = Qualifiers::random(random);
+    let qualifiers = Qualifiers::random(random, schemes);
     // With an odd number of LAMs all 256 rows can be used.
     let lambdas = 2 * random.below(32) + 1;
-    let leaves = Leaves::random(random, join, lambdas);
+    let leaves = Leaves::random(random, schemes, join, lambdas);
     let arithmetic = ARITHMETIC[random.below(3)];
     let mut lines = String::new();
     for own in 0..lambdas {
@@ -93,7 +103,8 @@ fn operation(random: &mut Random, operations: &[Operation], one: usize, other: u
 }
 
 /// How the leaves of a chain are made.
-struct Leaves {
+struct Leaves<'a> {
+    schemes: &'a SchemeTable,
     join: Join,
     lambdas: usize,
     /// Once in so many leaves one does not fit, 0 for never.
@@ -102,11 +113,17 @@ struct Leaves {
     numbers: usize,
 }
 
-impl Leaves {
+impl<'a> Leaves<'a> {
     /// The leaves of a chain.
-    fn random(random: &mut Random, join: Join, lambdas: usize) -> Leaves {
+    fn random(
+        random: &mut Random,
+        schemes: &'a SchemeTable,
+        join: Join,
+        lambdas: usize,
+    ) -> Leaves<'a> {
         let (departures, numbers) = ([0, 0, 30, 400], [0, 2, 3, 40]);
         Leaves {
+            schemes,
             join,
             lambdas,
             departures: departures[random.below(4)],
@@ -130,7 +147,10 @@ impl Leaves {
             return match join {
                 Join::Nested if random.one_in(4) => NUMBER.to_string(),
                 Join::Applied | Join::Nested if random.one_in(2) => variable(0),
-                _ => format!("ENC,{},1", wrong_scheme(random).word()),
+                _ => {
+                    let scheme = wrong_scheme(random, self.schemes);
+                    format!("ENC,{},1", self.schemes.word(scheme))
+                }
             };
         }
         match join {
@@ -147,25 +167,26 @@ impl Leaves {
 const NUMBER: &str = "NUM,1";
 
 /// The declared qualifiers of a program: one everywhere or named variables, with a constant now and then.
-struct Qualifiers {
-    usual: Option<u8>,
+struct Qualifiers<'a> {
+    schemes: &'a SchemeTable,
+    usual: Option<Code>,
     departures: usize,
 }
 
-impl Qualifiers {
+impl<'a> Qualifiers<'a> {
     /// The qualifiers of a program.
-    fn random(random: &mut Random) -> Qualifiers {
-        let usual = random.one_in(3).then(|| any_code(random));
-        Qualifiers { usual, departures: [0, 0, 30][random.below(3)] }
+    fn random(random: &mut Random, schemes: &'a SchemeTable) -> Qualifiers<'a> {
+        let usual = random.one_in(3).then(|| any_code(random, schemes));
+        Qualifiers { schemes, usual, departures: [0, 0, 30][random.below(3)] }
     }
 
     /// One qualifier.
     fn text(&self, random: &mut Random) -> String {
         if random.one_in(self.departures) {
-            return Qualifier::ALL[random.below(7)].word().to_string();
+            return self.schemes.word(any_word(random, self.schemes)).to_string();
         }
         match self.usual {
-            Some(usual) => code_text(usual),
+            Some(usual) => code_text(self.schemes, usual),
             None => format!("g{}", random.below(64)),
         }
     }

@@ -6,6 +6,7 @@ use super::letter_damage::LetterDamage;
 use super::random::Random;
 use super::text::code_text;
 use crate::operation::Operation;
+use crate::schemes::SchemeTable;
 use crate::word::capitals;
 
 /// Fields that are refused or accepted at a limit, to put in the place of others.
@@ -82,17 +83,23 @@ fn with_wrong_floor(random: &mut Random, line: &[u8]) -> Vec<u8> {
     fields.join(&b',')
 }
 
+/// A line under the built-in six, changed as [`changed_line_under`] does it.
+pub fn changed_line(random: &mut Random, line: &[u8]) -> Vec<u8> {
+    changed_line_under(random, SchemeTable::six(), line)
+}
+
 /// The line with one field replaced by another of its kind, and with its words in any case.
 ///
-/// It stays well formed, unless an ENC's scheme becomes PLAIN or a variable. The own number stays, as a wrong one hides all other refusals.
-pub fn changed_line(random: &mut Random, line: &[u8]) -> Vec<u8> {
+/// It stays well formed, unless an ENC's scheme becomes PLAIN or a variable, or a scheme is named as a kind or an operation.
+/// The own number stays, as a wrong one hides all other refusals.
+pub fn changed_line_under(random: &mut Random, schemes: &SchemeTable, line: &[u8]) -> Vec<u8> {
     let mut fields: Vec<Vec<u8>> = line.split(|&byte| byte == b',').map(<[u8]>::to_vec).collect();
     let position = random.between(2, fields.len().saturating_sub(1));
     let is_floor = line.starts_with(b"P,") && position == FLOOR_FIELD;
     if let Some(field) = fields.get_mut(position) {
         let other = match is_floor {
-            true => any_word(random).word().to_string(),
-            false => other_of_kind(random, field),
+            true => schemes.word(any_word(random, schemes)).to_string(),
+            false => other_of_kind(random, schemes, field),
         };
         *field = other.into_bytes();
     }
@@ -100,7 +107,7 @@ pub fn changed_line(random: &mut Random, line: &[u8]) -> Vec<u8> {
 }
 
 /// Another field of the same kind: a number, an operation, or otherwise a qualifier.
-fn other_of_kind(random: &mut Random, field: &[u8]) -> String {
+fn other_of_kind(random: &mut Random, schemes: &SchemeTable, field: &[u8]) -> String {
     let text = String::from_utf8_lossy(field);
     if let Ok(number) = text.parse::<u64>() {
         let near = number.saturating_add(random.below(4) as u64).saturating_sub(1);
@@ -116,6 +123,6 @@ fn other_of_kind(random: &mut Random, field: &[u8]) -> String {
     match &capitals(field)[..] {
         b"INT" | b"ANY" => (if random.one_in(2) { "INT" } else { "ANY" }).to_string(),
         b"LAM" | b"APP" | b"OP" | b"VAR" | b"NUM" | b"ENC" | b"ARROW" => text.to_string(),
-        _ => code_text(any_code(random)),
+        _ => code_text(schemes, any_code(random, schemes)),
     }
 }

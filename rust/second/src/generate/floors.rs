@@ -2,19 +2,28 @@
 
 use super::goals::any_word;
 use super::letter_case::{in_any_case, text_in_any_case};
-use super::program::{closed_program, Program};
+use super::program::{closed_program_under, Program};
 use super::random::Random;
 use super::text::with_floor;
-use crate::qualifier::{at_or_below, Qualifier};
+use crate::schemes::{Code, SchemeTable, PLAIN};
 use crate::table::Table;
 use crate::typing::judge;
 
 /// How often a floor is missed in a program, where one can be: once in so many parameters, 0 for never.
 const MISSED: [usize; 7] = [0, 0, 0, 1, 3, 8, 24];
 
-/// A random closed program as [`closed_program`] makes it, its words in any case; two of three have floors.
+/// A random closed program under the built-in six, as [`program_with_floors_under`] makes it.
 pub fn program_with_floors(random: &mut Random, rows: usize) -> Program {
-    let program = closed_program(random, rows);
+    program_with_floors_under(random, SchemeTable::six(), rows)
+}
+
+/// A random closed program as [`closed_program_under`] makes it, its words in any case; two of three have floors.
+pub fn program_with_floors_under(
+    random: &mut Random,
+    schemes: &SchemeTable,
+    rows: usize,
+) -> Program {
+    let program = closed_program_under(random, schemes, rows);
     let mut program = with_floors(random, program);
     for line in &mut program.lines {
         *line = String::from_utf8_lossy(&in_any_case(random, line.as_bytes())).into_owned();
@@ -22,10 +31,16 @@ pub fn program_with_floors(random: &mut Random, rows: usize) -> Program {
     program
 }
 
-/// A text whose lines are all accepted and have no floors, with its words in any case, and with floors in two of three texts.
+/// A text under the built-in six, with what [`text_with_floors_under`] adds.
 pub fn text_with_floors(random: &mut Random, text: &[u8]) -> Vec<u8> {
+    text_with_floors_under(random, SchemeTable::six(), text)
+}
+
+/// A text whose lines are all accepted and have no floors, with its words in any case, and with floors in two of three texts.
+pub fn text_with_floors_under(random: &mut Random, schemes: &SchemeTable, text: &[u8]) -> Vec<u8> {
     let lines = String::from_utf8_lossy(text).lines().map(str::to_string).collect();
-    let program = with_floors(random, Program { lines, redeclarations: vec![] });
+    let program = Program { schemes: schemes.clone(), lines, redeclarations: vec![] };
+    let program = with_floors(random, program);
     text_in_any_case(random, &program.text())
 }
 
@@ -34,29 +49,29 @@ fn with_floors(random: &mut Random, mut program: Program) -> Program {
     if random.one_in(3) {
         return program;
     }
-    let table = program.table();
-    let words: Vec<Qualifier> = match judge(&table) {
+    let (table, schemes) = (program.table(), &program.schemes);
+    let words: Vec<Code> = match judge(&table) {
         Ok(judgement) => judgement.params.iter().map(|slot| slot.word).collect(),
         // Without a typing no floor is looked at, so any will do.
-        Err(_) => table.params.iter().map(|_| any_word(random)).collect(),
+        Err(_) => table.params.iter().map(|_| any_word(random, schemes)).collect(),
     };
     let missed = MISSED[random.below(MISSED.len())];
     let parameter_lines = program.lines.iter_mut().filter(|line| line.starts_with('P'));
     for (line, word) in parameter_lines.zip(words) {
         let misses = random.one_in(missed);
-        let floor = floor(random, word, misses);
+        let floor = floor(random, schemes, word, misses);
         // Four fields mean PLAIN, so it is mostly left out.
-        if floor != Qualifier::Plain || random.one_in(3) {
-            *line = with_floor(line, floor);
+        if floor != PLAIN || random.one_in(3) {
+            *line = with_floor(schemes, line, floor);
         }
     }
     program
 }
 
 /// A floor that a word misses, if that is wanted and there is one; otherwise one that it meets.
-fn floor(random: &mut Random, word: Qualifier, misses: bool) -> Qualifier {
-    let all = Qualifier::ALL.into_iter();
-    let (met, missed): (Vec<_>, Vec<_>) = all.partition(|&floor| at_or_below(floor, word));
+fn floor(random: &mut Random, schemes: &SchemeTable, word: Code, misses: bool) -> Code {
+    let is_met = |&floor: &Code| schemes.at_or_below(floor, word);
+    let (met, missed): (Vec<_>, Vec<_>) = schemes.qualifiers().partition(is_met);
     let candidates = if misses && !missed.is_empty() { missed } else { met };
     candidates[random.below(candidates.len())]
 }
@@ -83,7 +98,7 @@ impl Floors {
 
     /// What is seen of the floors of the program that stands in a table.
     pub fn of(table: &Table) -> Floors {
-        if table.params.iter().all(|parameter| parameter.floor == Qualifier::Plain) {
+        if table.params.iter().all(|parameter| parameter.floor == PLAIN) {
             return Floors::Plain;
         }
         let Ok(judgement) = judge(table) else {

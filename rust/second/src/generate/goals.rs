@@ -1,7 +1,9 @@
 //! Goals that direct the generation of programs, and how often a program departs from them.
 
 use super::random::Random;
-use crate::qualifier::{Qualifier, FIRST_VARIABLE_CODE, GREATEST_CODE, NAMED_VARIABLES};
+use crate::operation::Operation;
+use crate::qualifier::NAMED_VARIABLES;
+use crate::schemes::{Code, SchemeTable, PLAIN};
 
 /// The shape that a term is meant to have.
 #[derive(Clone, PartialEq)]
@@ -63,19 +65,20 @@ impl Departures {
 
 /// The classes of qualifiers that a program is built from; class 0 is always PLAIN.
 pub struct QualifierPlan {
-    constants: Vec<Option<Qualifier>>,
+    constants: Vec<Option<Code>>,
+    first_variable: Code,
 }
 
 impl QualifierPlan {
-    /// A plan with so many classes.
-    pub fn random(random: &mut Random, classes: usize) -> QualifierPlan {
-        let mut constants = vec![Some(Qualifier::Plain)];
+    /// A plan with so many classes of a scheme table's qualifiers.
+    pub fn random(random: &mut Random, schemes: &SchemeTable, classes: usize) -> QualifierPlan {
+        let mut constants = vec![Some(PLAIN)];
         for _ in 1..classes {
             // Class 0 is PLAIN, so the others have schemes.
-            let constant = random.pick(&Qualifier::ALL[1..]).copied();
-            constants.push(constant.filter(|_| random.one_in(2)));
+            let constant = any_scheme(random, schemes);
+            constants.push(random.one_in(2).then_some(constant));
         }
-        QualifierPlan { constants }
+        QualifierPlan { constants, first_variable: schemes.first_variable() }
     }
 
     /// The number of classes.
@@ -84,19 +87,19 @@ impl QualifierPlan {
     }
 
     /// The qualifier that a class is meant to have, if it is fixed.
-    pub fn constant(&self, class: usize) -> Option<Qualifier> {
+    pub fn constant(&self, class: usize) -> Option<Code> {
         self.constants[class]
     }
 
     /// The code of a qualifier for the class: its constant or one of its variables.
-    pub fn code(&self, random: &mut Random, class: usize) -> u8 {
+    pub fn code(&self, random: &mut Random, class: usize) -> Code {
         if let (Some(constant), true) = (self.constants[class], random.one_in(2)) {
-            return constant.code();
+            return constant;
         }
         // A variable belongs to the class that its number gives modulo the number of classes.
         let classes = self.classes();
         let members = (usize::from(NAMED_VARIABLES) - class).div_ceil(classes);
-        FIRST_VARIABLE_CODE + (class + classes * random.below(members)) as u8
+        self.first_variable + (class + classes * random.below(members)) as Code
     }
 
     /// A goal of any class: mostly an integer, otherwise an arrow of small depth.
@@ -111,34 +114,42 @@ impl QualifierPlan {
     }
 }
 
-/// Any of the seven qualifiers.
-pub fn any_word(random: &mut Random) -> Qualifier {
-    Qualifier::ALL[random.below(Qualifier::ALL.len())]
+/// Any of a scheme table's qualifiers.
+pub fn any_word(random: &mut Random, schemes: &SchemeTable) -> Code {
+    random.below(schemes.qualifiers().count()) as Code
 }
 
-/// Any of the six schemes.
-pub fn any_scheme(random: &mut Random) -> Qualifier {
+/// Any of a scheme table's schemes.
+pub fn any_scheme(random: &mut Random, schemes: &SchemeTable) -> Code {
     // The first qualifier is PLAIN, which is no scheme.
-    Qualifier::ALL[random.between(1, Qualifier::ALL.len() - 1)]
+    random.between(1, schemes.schemes().count()) as Code
 }
 
-/// A scheme for a wrong place, often FHE: as it supports every operation, it clashes where others break a bound.
-pub fn wrong_scheme(random: &mut Random) -> Qualifier {
+/// A scheme for a wrong place, often the one that supports the most: it clashes where others break a bound.
+pub fn wrong_scheme(random: &mut Random, schemes: &SchemeTable) -> Code {
     match random.one_in(2) {
-        true => Qualifier::Fhe,
-        false => any_scheme(random),
+        true => fullest_scheme(schemes),
+        false => any_scheme(random, schemes),
     }
 }
 
-/// Any code of a declared qualifier.
-pub fn any_code(random: &mut Random) -> u8 {
-    random.below(usize::from(GREATEST_CODE) + 1) as u8
+/// A scheme that no other supports more operations than, FHE of the six.
+fn fullest_scheme(schemes: &SchemeTable) -> Code {
+    let supports = |&scheme: &Code| {
+        Operation::ALL.into_iter().filter(|&it| schemes.supports(scheme, it)).count()
+    };
+    schemes.schemes().max_by_key(supports).unwrap_or(PLAIN)
 }
 
-/// A code for a wrong place, often one of the seven qualifiers: most codes are variables, which clash with nothing.
-pub fn wrong_code(random: &mut Random) -> u8 {
+/// Any code of a declared qualifier.
+pub fn any_code(random: &mut Random, schemes: &SchemeTable) -> Code {
+    random.below(usize::from(schemes.last_variable()) + 1) as Code
+}
+
+/// A code for a wrong place, often that of a qualifier: most codes are variables, which clash with nothing.
+pub fn wrong_code(random: &mut Random, schemes: &SchemeTable) -> Code {
     match random.one_in(2) {
-        true => any_word(random).code(),
-        false => any_code(random),
+        true => any_word(random, schemes),
+        false => any_code(random, schemes),
     }
 }

@@ -3,8 +3,8 @@
 use super::order::parents;
 use crate::counts::Counts;
 use crate::operation::Operation;
-use crate::qualifier::{at_or_below, Qualifier};
 use crate::rows::Term;
+use crate::schemes::SchemeTable;
 use crate::table::Table;
 use crate::typing::judge;
 use std::collections::BTreeSet;
@@ -92,16 +92,16 @@ fn ignores_argument(table: &Table, row: u16) -> bool {
 }
 
 /// What is the other operand of a NUM row's operation; qualifiers are given as words.
-#[derive(Clone, Copy, Debug, PartialEq, Eq, PartialOrd, Ord)]
+#[derive(Clone, Debug, PartialEq, Eq, PartialOrd, Ord)]
 pub enum Partner {
     /// A parameter that is declared with this qualifier.
-    Declared(&'static str),
+    Declared(String),
     /// A parameter that is declared with a named variable.
     NamedVariable,
     /// Another NUM row.
     Number,
     /// A number that is encrypted with this scheme.
-    Encrypted(&'static str),
+    Encrypted(String),
     /// The result of a comparison.
     Comparison,
     /// The result of ADD or MUL.
@@ -113,12 +113,11 @@ pub enum Partner {
 }
 
 impl Partner {
-    /// All of them.
-    pub fn all() -> Vec<Partner> {
-        let words = Qualifier::ALL.map(Qualifier::word);
-        let declared = words.map(Partner::Declared).into_iter();
+    /// All of them under a scheme table.
+    pub fn all(schemes: &SchemeTable) -> Vec<Partner> {
+        let declared = schemes.words().into_iter().map(Partner::Declared);
         // The first word is PLAIN, which is no scheme.
-        let encrypted = words[1..].iter().map(|&word| Partner::Encrypted(word));
+        let encrypted = schemes.words().into_iter().skip(1).map(Partner::Encrypted);
         let others = [
             Partner::NamedVariable,
             Partner::Number,
@@ -135,11 +134,15 @@ impl Partner {
         match table.terms[usize::from(row)] {
             Term::Variable { parameter } => {
                 let code = table.params[usize::from(parameter)].qualifier;
-                let declared = Qualifier::ALL.get(usize::from(code));
-                declared.map_or(Partner::NamedVariable, |it| Partner::Declared(it.word()))
+                match code < table.schemes().first_variable() {
+                    true => Partner::Declared(table.schemes().word(code).to_string()),
+                    false => Partner::NamedVariable,
+                }
             }
             Term::Number { .. } => Partner::Number,
-            Term::Encrypted { scheme, .. } => Partner::Encrypted(scheme.word()),
+            Term::Encrypted { scheme, .. } => {
+                Partner::Encrypted(table.schemes().word(scheme).to_string())
+            }
             Term::Operate { operation, .. } if operation.keeps_qualifier() => Partner::Arithmetic,
             Term::Operate { .. } => Partner::Comparison,
             Term::Apply { .. } => Partner::Application,
@@ -149,17 +152,17 @@ impl Partner {
 }
 
 /// The operation that a NUM row is an operand of, or none, with its word.
-pub type OperandWord = (Option<Operation>, &'static str);
+pub type OperandWord = (Option<Operation>, String);
 
-/// The words that NUM rows can have in a typing, for operands of each operation and for others.
-pub fn possible_words() -> Vec<OperandWord> {
-    let mut possible: Vec<OperandWord> = Qualifier::ALL.map(|word| (None, word.word())).to_vec();
-    for operation in Operation::ALL {
-        let supported = |word: &Qualifier| at_or_below(*word, operation.highest_scheme());
-        let words = Qualifier::ALL.into_iter().filter(supported);
-        possible.extend(words.map(|word| (Some(operation), word.word())));
-    }
-    possible
+/// The words that NUM rows can have in a typing under a scheme table, for operands of each operation and for others.
+pub fn possible_words(schemes: &SchemeTable) -> Vec<OperandWord> {
+    let operations = [None].into_iter().chain(Operation::ALL.map(Some));
+    let possible = |operation: Option<Operation>| {
+        let highest = operation.map_or(schemes.greatest(), |it| schemes.highest(it));
+        let words = schemes.qualifiers().filter(move |&code| schemes.at_or_below(code, highest));
+        words.map(move |code| (operation, schemes.word(code).to_string()))
+    };
+    operations.flat_map(possible).collect()
 }
 
 /// What was seen of the NUM rows of many tables.
@@ -170,7 +173,7 @@ pub struct NumberCounts {
     /// What stands beside them in operations.
     pub partners: Counts<Partner>,
     /// Their words in tables that have a typing.
-    pub words: Counts<&'static str>,
+    pub words: Counts<String>,
     /// The same with the operations that they are operands of.
     pub operand_words: Counts<OperandWord>,
     /// How many different words they have in a table that has a typing.
@@ -189,9 +192,9 @@ impl NumberCounts {
                     let place = Place::of(table, &parents, row);
                     self.places.add(place);
                     if let Some(judgement) = &judgement {
-                        let word = judgement.terms[row].word.word();
-                        self.words.add(word);
-                        self.operand_words.add((place.operation(), word));
+                        let word = table.schemes().word(judgement.terms[row].word).to_string();
+                        self.words.add(word.clone());
+                        self.operand_words.add((place.operation(), word.clone()));
                         words.insert(word);
                     }
                 }

@@ -2,7 +2,8 @@
 
 use super::random::Random;
 use super::text::{parameter_line, term_line, type_line};
-use crate::rows::{Parameter, Term, TypeRow};
+use crate::rows::{Parameter, Term};
+use crate::table::Table;
 
 /// The same terms, as they stand or in a random order with every child below its parent.
 pub fn numbered(random: &mut Random, terms: &[Term]) -> Vec<Term> {
@@ -54,13 +55,9 @@ fn renumbered(term: Term, numbers: &[u16]) -> Term {
     }
 }
 
-/// The lines of the three lists: declarations first, or mixed so that uses follow declarations.
-pub fn lines(
-    random: &mut Random,
-    types: &[TypeRow],
-    params: &[Parameter],
-    terms: &[Term],
-) -> Vec<String> {
+/// The lines of a table's three lists: declarations first, or mixed so that uses follow declarations.
+pub fn lines(random: &mut Random, table: &Table) -> Vec<String> {
+    let (schemes, types) = (table.schemes(), &table.types);
     let declarations_first = random.one_in(2);
     let (mut next_type, mut next_param, mut next_term) = (0, 0, 0);
     let mut lines = vec![];
@@ -68,11 +65,12 @@ pub fn lines(
         let type_declared = |p: &Parameter| usize::from(p.type_row) < next_type;
         let param_declared = |p: u16| usize::from(p) < next_param;
         let mut possible = vec![];
-        possible.extend(types.get(next_type).map(|row| type_line(next_type, row)));
-        let parameter = params.get(next_param).filter(|&p| type_declared(p));
-        possible.extend(parameter.map(|p| parameter_line(next_param, p)));
-        let term = terms.get(next_term).filter(|term| term.parameter().is_none_or(param_declared));
-        possible.extend(term.map(|term| term_line(next_term, term)));
+        possible.extend(types.get(next_type).map(|row| type_line(schemes, next_type, row)));
+        let parameter = table.params.get(next_param).filter(|&p| type_declared(p));
+        possible.extend(parameter.map(|p| parameter_line(schemes, next_param, p)));
+        let is_possible = |term: &&Term| term.parameter().is_none_or(param_declared);
+        let term = table.terms.get(next_term).filter(is_possible);
+        possible.extend(term.map(|term| term_line(schemes, next_term, term)));
         let choice = if declarations_first { possible.first() } else { random.pick(&possible) };
         let Some(line) = choice else {
             return lines;

@@ -4,13 +4,15 @@ use super::goals::{any_code, wrong_code, wrong_scheme, Aim, Departures, Goal, Qu
 use super::order;
 use super::random::Random;
 use crate::operation::Operation;
-use crate::qualifier::{at_or_below, Qualifier};
 use crate::rows::{Parameter, QualifiedRow, Term, TypeRow};
+use crate::schemes::{Code, SchemeTable, PLAIN};
 use crate::table::Table;
 
 /// A closed program as lines to add, with redeclarations to be made after them.
 pub struct Program {
-    /// The lines without line feeds; all are accepted by a fresh table.
+    /// The scheme table that its words are from.
+    pub schemes: SchemeTable,
+    /// The lines without line feeds; all are accepted by a fresh table of these schemes.
     pub lines: Vec<String>,
     /// Parameters and codes for redeclare, all accepted after the lines.
     pub redeclarations: Vec<(u64, u64)>,
@@ -24,7 +26,7 @@ impl Program {
 
     /// The table after the lines and the redeclarations.
     pub fn table(&self) -> Table {
-        let mut table = Table::fresh();
+        let mut table = Table::fresh_of(self.schemes.clone());
         for line in &self.lines {
             table.add(line.as_bytes());
         }
@@ -35,21 +37,29 @@ impl Program {
     }
 }
 
-/// A random closed program without floors, with so many rows, or fewer where the parameters run out.
+/// A random closed program under the built-in six, as [`closed_program_under`] makes it.
 pub fn closed_program(random: &mut Random, rows: usize) -> Program {
+    closed_program_under(random, SchemeTable::six(), rows)
+}
+
+/// A random closed program without floors, with so many rows, or fewer where the parameters run out.
+pub fn closed_program_under(random: &mut Random, schemes: &SchemeTable, rows: usize) -> Program {
     let rows = rows.clamp(1, Table::TERM_LIMIT);
-    let mut builder = Builder::new(random, rows);
+    let mut builder = Builder::new(random, schemes, rows);
     builder.program(rows);
     builder.unused_types();
     let redeclarations = builder.redeclarations();
     let Builder { types, params, terms, .. } = builder;
-    let terms = order::numbered(random, &terms);
-    Program { lines: order::lines(random, &types, &params, &terms), redeclarations }
+    let mut table = Table::fresh_of(schemes.clone());
+    (table.types, table.params) = (types, params);
+    table.terms = order::numbered(random, &terms);
+    Program { lines: order::lines(random, &table), redeclarations, schemes: schemes.clone() }
 }
 
 /// The lists that grow while a program is built; every child stands below its parent.
 struct Builder<'a> {
     random: &'a mut Random,
+    schemes: &'a SchemeTable,
     departures: Departures,
     plan: QualifierPlan,
     types: Vec<TypeRow>,
@@ -64,12 +74,13 @@ struct Builder<'a> {
 }
 
 impl<'a> Builder<'a> {
-    fn new(random: &'a mut Random, rows: usize) -> Builder<'a> {
+    fn new(random: &'a mut Random, schemes: &'a SchemeTable, rows: usize) -> Builder<'a> {
         let classes = random.between(1, 1 + (rows / 4).min(5));
         Builder {
             departures: Departures::random(random, rows),
-            plan: QualifierPlan::random(random, classes),
+            plan: QualifierPlan::random(random, schemes, classes),
             random,
+            schemes,
             types: vec![],
             aims: vec![],
             params: vec![],
@@ -226,7 +237,7 @@ impl<'a> Builder<'a> {
         supported: &[(Operation, usize)],
         rows: usize,
     ) -> Option<(Operation, usize)> {
-        let is_fixed = |class| self.plan.constant(class).is_some_and(|it| it != Qualifier::Plain);
+        let is_fixed = |class| self.plan.constant(class).is_some_and(|it| it != PLAIN);
         let is_preferred = |&&(operation, class): &&(Operation, usize)| match rows {
             0..=8 => is_fixed(class),
             _ => operation.keeps_qualifier(),
@@ -246,8 +257,8 @@ impl<'a> Builder<'a> {
             goal.class == if operation.keeps_qualifier() { class } else { 0 }
         };
         let supports = |&(operation, class): &(Operation, usize)| {
-            let constant = self.plan.constant(class);
-            constant.is_none_or(|constant| at_or_below(constant, operation.highest_scheme()))
+            let highest = self.schemes.highest(operation);
+            self.plan.constant(class).is_none_or(|it| self.schemes.at_or_below(it, highest))
         };
         let all = Operation::ALL.into_iter().flat_map(classes).filter(gives);
         let (supported, unsupported): (Vec<_>, Vec<_>) = all.partition(supports);
@@ -264,12 +275,15 @@ impl<'a> Builder<'a> {
         let variable = self.fitting_parameter(goal);
         let value = (self.random.number() >> self.random.between(32, 63)) as u32;
         let scheme = match self.plan.constant(goal.class) {
-            _ if departs => Some(wrong_scheme(self.random)),
-            Some(Qualifier::Plain) => None,
+            _ if departs => Some(wrong_scheme(self.random, self.schemes)),
+            Some(PLAIN) => None,
             Some(constant) => Some(constant).filter(|_| self.random.one_in(2)),
             // A scheme fixes the class, so it stays free where a parameter has it.
             None if variable.is_some() => None,
-            None => Some(wrong_scheme(self.random)).filter(|_| self.random.one_in(2)),
+            None => {
+                let scheme = wrong_scheme(self.random, self.schemes);
+                self.random.one_in(2).then_some(scheme)
+            }
         };
         let prefers_variable = !departs && !self.random.one_in(3);
         self.push(match (variable, scheme) {
@@ -291,15 +305,15 @@ impl<'a> Builder<'a> {
     fn parameter(&mut self, goal: &Goal) -> u16 {
         let type_row = self.type_row(&goal.aim);
         let qualifier = self.qualifier(goal.class);
-        self.params.push(Parameter { qualifier, type_row, floor: Qualifier::Plain });
+        self.params.push(Parameter { qualifier, type_row, floor: PLAIN });
         self.goals.push(goal.clone());
         (self.params.len() - 1) as u16
     }
 
     /// A declared qualifier for a class.
-    fn qualifier(&mut self, class: usize) -> u8 {
+    fn qualifier(&mut self, class: usize) -> Code {
         match self.random.one_in(self.departures.wrong_qualifier) {
-            true => wrong_code(self.random),
+            true => wrong_code(self.random, self.schemes),
             false => self.plan.code(self.random, class),
         }
     }
@@ -343,7 +357,7 @@ impl<'a> Builder<'a> {
                 return;
             }
             let mut part = || QualifiedRow {
-                qualifier: any_code(self.random),
+                qualifier: any_code(self.random, self.schemes),
                 type_row: self.random.below(self.types.len()) as u16,
             };
             let row = TypeRow::Arrow { argument: part(), result: part() };
@@ -358,7 +372,7 @@ impl<'a> Builder<'a> {
         for (number, parameter) in self.params.iter_mut().enumerate() {
             if self.random.one_in(often) {
                 redeclarations.push((number as u64, u64::from(parameter.qualifier)));
-                parameter.qualifier = wrong_code(self.random);
+                parameter.qualifier = wrong_code(self.random, self.schemes);
             }
         }
         redeclarations

@@ -1,8 +1,9 @@
 //! Damaged texts, near the limits of what is accepted.
 
-use super::damage::{changed_line, damaged_line};
+use super::damage::{changed_line_under, damaged_line};
 use super::letter_damage::CASE_BIT;
 use super::random::Random;
+use crate::schemes::SchemeTable;
 
 /// Bytes that stand in lines or between them, to put in the place of others.
 const FREQUENT: &[u8] = b"0123456789,,,\n\n\r\0 TPEAgtpeaG";
@@ -58,8 +59,13 @@ impl Damage {
         LineOf64Bytes, LineOf65Bytes, LineDamaged, FieldChanged,
     ];
 
-    /// The text with this change at a random place; an empty text may stay as it is.
+    /// A text under the built-in six with this change, as [`Damage::of_text_under`] makes it.
     pub fn of_text(self, random: &mut Random, text: &[u8]) -> Vec<u8> {
+        self.of_text_under(random, SchemeTable::six(), text)
+    }
+
+    /// The text with this change at a random place; an empty text may stay as it is.
+    pub fn of_text_under(self, random: &mut Random, schemes: &SchemeTable, text: &[u8]) -> Vec<u8> {
         let mut bytes = text.to_vec();
         let position = random.below(text.len());
         match self {
@@ -75,13 +81,13 @@ impl Damage {
             ByteDropped => {}
             LineFeedDropped => drop_line_feed(random, &mut bytes),
             LineFeedFirst => bytes.insert(0, b'\n'),
-            _ => return self.of_lines(random, text),
+            _ => return self.of_lines(random, schemes, text),
         }
         bytes
     }
 
     /// The text with this change to one or all of its lines.
-    fn of_lines(self, random: &mut Random, text: &[u8]) -> Vec<u8> {
+    fn of_lines(self, random: &mut Random, schemes: &SchemeTable, text: &[u8]) -> Vec<u8> {
         let with_line_feeds = text.split_inclusive(|&byte| byte == b'\n');
         let mut lines: Vec<Vec<u8>> = with_line_feeds.map(<[u8]>::to_vec).collect();
         let (one, other) = (random.below(lines.len()), random.below(lines.len()));
@@ -96,18 +102,18 @@ impl Damage {
             LinesSwapped => lines.swap(one, other),
             Shortened => lines.truncate(one),
             CarriageReturns => lines.iter_mut().for_each(|line| *line = with_return(line)),
-            _ => lines[one] = self.of_line(random, &lines[one]),
+            _ => lines[one] = self.of_line(random, schemes, &lines[one]),
         }
         lines.concat()
     }
 
     /// A line with this change; its line feed stays, if it has one.
-    fn of_line(self, random: &mut Random, line: &[u8]) -> Vec<u8> {
+    fn of_line(self, random: &mut Random, schemes: &SchemeTable, line: &[u8]) -> Vec<u8> {
         let without = line.strip_suffix(b"\n").unwrap_or(line);
         let mut changed = match self {
             CarriageReturn => return with_return(line),
             LineDamaged => damaged_line(random, without),
-            FieldChanged => changed_line(random, without),
+            FieldChanged => changed_line_under(random, schemes, without),
             _ => without.to_vec(),
         };
         let fill = FREQUENT[random.below(10)];
@@ -162,14 +168,19 @@ fn with_return(line: &[u8]) -> Vec<u8> {
     }
 }
 
-/// A text with one change, and often without its last byte.
+/// A text under the built-in six, damaged as [`damaged_text_under`] does it.
 pub fn damaged_text(random: &mut Random, text: &[u8]) -> Vec<u8> {
+    damaged_text_under(random, SchemeTable::six(), text)
+}
+
+/// A text with one change, and often without its last byte.
+pub fn damaged_text_under(random: &mut Random, schemes: &SchemeTable, text: &[u8]) -> Vec<u8> {
     // Changed fields are refused for the most different reasons.
     let damage = match random.one_in(2) {
         true => FieldChanged,
         false => Damage::ALL[random.below(Damage::ALL.len())],
     };
-    let mut damaged = damage.of_text(random, text);
+    let mut damaged = damage.of_text_under(random, schemes, text);
     if random.one_in(4) {
         damaged.pop();
     }

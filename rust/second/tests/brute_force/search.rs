@@ -4,27 +4,12 @@
 //! qualifiers of the NUM rows: everything else follows bottom up. The search tries all of them
 //! and checks the typing rules as they are written.
 
+use crate::order::{Order, MOST_CODES};
 use second::operation::Operation;
-use second::qualifier::Qualifier;
 use second::rows::{Parameter, QualifiedRow, Term, TypeRow};
 use second::typing::{judge, Judgement, Shape, Slot};
 use second::Table;
 use std::collections::HashMap;
-
-/// For each qualifier code, whether each code is at or below it; made by hand.
-const AT_OR_BELOW: [[bool; 7]; 7] = {
-    const O: bool = false;
-    const X: bool = true;
-    [
-        [X, O, O, O, O, O, O],
-        [X, X, O, O, O, O, O],
-        [X, X, X, O, O, O, O],
-        [X, X, X, X, O, O, O],
-        [X, X, O, O, X, O, O],
-        [X, X, O, O, O, X, O],
-        [X, X, X, X, X, X, X],
-    ]
-};
 
 /// The number of a type; equal types have equal numbers.
 type TypeNumber = usize;
@@ -34,14 +19,11 @@ type QualifiedType = (u8, TypeNumber);
 
 const INT: TypeNumber = 0;
 
-/// The codes of the qualifiers.
-const CODES: u8 = 7;
-
 /// A bit for each code.
-const EVERY_CODE: u8 = (1 << CODES) - 1;
+type CodeSet = u16;
 
 /// Stands for the qualifier of a NUM row as long as no row has used it: every code meets the rules.
-const UNDECIDED: u8 = CODES;
+const UNDECIDED: u8 = MOST_CODES as u8;
 
 /// The types that have been formed, each with its own number.
 #[derive(Default)]
@@ -90,10 +72,10 @@ pub enum Rules {
 
 impl Rules {
     /// How many qualifiers are told apart.
-    fn codes(self) -> u8 {
+    fn codes(self, order: &Order) -> u8 {
         match self {
             Rules::WithoutQualifiers => 1,
-            Rules::WithoutBounds | Rules::All => CODES,
+            Rules::WithoutBounds | Rules::All => order.codes,
         }
     }
 }
@@ -124,6 +106,7 @@ impl Choice {
 
 /// A check of the rules for one choice after the other, with every choice of the NUM rows' qualifiers.
 struct Check<'a> {
+    order: &'a Order,
     table: &'a Table,
     rules: Rules,
     wanted: Wanted,
@@ -140,8 +123,8 @@ impl Check<'_> {
     fn qualifier(&self, code: u8) -> u8 {
         match code {
             _ if self.rules == Rules::WithoutQualifiers => 0,
-            0..=6 => code,
-            _ => self.choice.variables[usize::from(code) - 7],
+            _ if code < self.order.codes => code,
+            _ => self.choice.variables[usize::from(code - self.order.codes)],
         }
     }
 
@@ -194,7 +177,7 @@ impl Check<'_> {
             Term::Variable { parameter } => Some(self.parameter(parameter)),
             // "A NUM row now has type INT under any one qualifier"; the row that uses it tries each.
             Term::Number { .. } => Some((UNDECIDED, INT)),
-            Term::Encrypted { scheme, .. } => Some((self.qualifier(scheme as u8), INT)),
+            Term::Encrypted { scheme, .. } => Some((self.qualifier(scheme), INT)),
         }
     }
 
@@ -205,14 +188,12 @@ impl Check<'_> {
         left: QualifiedType,
         right: QualifiedType,
     ) -> Option<QualifiedType> {
-        let (highest, result) = match operation {
-            Operation::Add => (5, left.0),
-            Operation::Mul => (4, left.0),
-            Operation::Eq => (3, self.qualifier(0)),
-            Operation::Lt | Operation::Gt => (2, self.qualifier(0)),
+        let result = match operation {
+            Operation::Add | Operation::Mul => left.0,
+            Operation::Eq | Operation::Lt | Operation::Gt => self.qualifier(0),
         };
         let integers = left.1 == INT && right.1 == INT;
-        let supported = self.rules != Rules::All || AT_OR_BELOW[highest][usize::from(left.0)];
+        let supported = self.rules != Rules::All || self.order.supports(left.0, operation);
         (integers && left.0 == right.0 && supported).then_some((result, INT))
     }
 
@@ -243,7 +224,7 @@ impl Check<'_> {
     /// No row is a child twice, so that no rule before or after this row's speaks of them.
     fn visit_row(&mut self, term: Term, numbers: &[usize], found: &mut Found) {
         if let Some((&number, others)) = numbers.split_first() {
-            for code in 0..self.rules.codes() {
+            for code in 0..self.rules.codes(self.order) {
                 self.rows[number].0 = code;
                 self.visit_row(term, others, found);
             }
@@ -259,7 +240,7 @@ impl Check<'_> {
     fn take_typing(&self, found: &mut Found) {
         let params = self.table.params.iter().map(|it| self.declared(it.declared()));
         let slots: Vec<QualifiedType> = params.chain(self.rows.iter().copied()).collect();
-        found.take(self.table, &self.choice.variables, &slots, self.reported.as_ref());
+        found.take(self, &slots);
     }
 }
 
@@ -269,7 +250,7 @@ pub struct Found {
     /// The greatest number of rows from row 0 on that have a typing.
     pub most_rows: usize,
     /// The qualifiers of each variable, parameter and row in all typings of the whole table, a bit for each code.
-    words: Vec<u8>,
+    words: Vec<CodeSet>,
     /// Whether each parameter and row is INT, and whether it is an arrow, in some typing.
     pub shapes: Vec<(bool, bool)>,
     /// Whether a typing has the solver's words, and its shapes with ANY taken as INT.
@@ -279,57 +260,59 @@ pub struct Found {
 }
 
 /// Tells whether a parameter's floor is at or below a qualifier.
-fn meets(parameter: &Parameter, code: u8) -> bool {
-    AT_OR_BELOW[usize::from(code)][parameter.floor as usize]
+fn meets(order: &Order, parameter: &Parameter, code: u8) -> bool {
+    order.at_or_below(parameter.floor, code)
 }
 
 impl Found {
-    /// Takes a typing of the whole table: the variables' codes, then parameters and rows.
-    fn take(
-        &mut self,
-        table: &Table,
-        variables: &[u8],
-        slots: &[QualifiedType],
-        reported: Option<&Judgement>,
-    ) {
-        let mut params = table.params.iter().zip(slots);
-        self.meets_every_floor |= params.all(|(parameter, slot)| meets(parameter, slot.0));
+    /// Takes a typing of the whole table: the choice's variables, then these parameters and rows.
+    fn take(&mut self, check: &Check, slots: &[QualifiedType]) {
+        let (order, variables) = (check.order, &check.choice.variables);
+        let mut params = check.table.params.iter().zip(slots);
+        self.meets_every_floor |= params.all(|(parameter, slot)| meets(order, parameter, slot.0));
         let words = || variables.iter().copied().chain(slots.iter().map(|slot| slot.0));
         self.words.resize(words().count(), 0);
         self.shapes.resize(slots.len(), (false, false));
         for (seen, word) in self.words.iter_mut().zip(words()) {
-            *seen |= if word == UNDECIDED { EVERY_CODE } else { 1 << word };
+            *seen |= if word == UNDECIDED { every_code(order) } else { 1 << word };
         }
         for (seen, slot) in self.shapes.iter_mut().zip(slots) {
             seen.0 |= slot.1 == INT;
             seen.1 |= slot.1 != INT;
         }
-        self.has_reported |= reported.is_some_and(|judgement| {
-            let is_same = |(slot, found): (&Slot, &QualifiedType)| {
-                let has_word = found.0 == UNDECIDED || found.0 == slot.word.code();
-                has_word && (slot.shape == Shape::Arrow) == (found.1 != INT)
-            };
-            let same_variable = |&(variable, word): &(u8, Qualifier)| {
-                variables[usize::from(variable)] == word.code()
-            };
-            judgement.variables.iter().all(same_variable)
-                && judgement.params.iter().chain(&judgement.terms).zip(slots).all(is_same)
-        });
+        let reported = check.reported.as_ref();
+        self.has_reported |= reported.is_some_and(|judgement| is_same(judgement, variables, slots));
     }
 
     /// The parameters whose greatest qualifier is not at or above their floor, after so many variables.
-    pub fn missed_floors(&self, table: &Table, variables: usize) -> Vec<usize> {
-        let met = |own: usize| meets(&table.params[own], self.greatest(variables + own));
+    pub fn missed_floors(&self, order: &Order, table: &Table, variables: usize) -> Vec<usize> {
+        let greatest = |own: usize| self.greatest(order, variables + own);
+        let met = |own: usize| meets(order, &table.params[own], greatest(own));
         (0..table.params.len()).filter(|&own| !met(own)).collect()
     }
 
     /// The greatest of the qualifiers that a slot has.
-    pub fn greatest(&self, slot: usize) -> u8 {
-        let seen = || (0..CODES).filter(|code| self.words[slot] >> code & 1 == 1);
-        let is_greatest =
-            |&upper: &u8| seen().all(|lower| AT_OR_BELOW[usize::from(upper)][usize::from(lower)]);
+    pub fn greatest(&self, order: &Order, slot: usize) -> u8 {
+        let seen = || (0..order.codes).filter(|code| self.words[slot] >> code & 1 == 1);
+        let is_greatest = |&upper: &u8| seen().all(|lower| order.at_or_below(lower, upper));
         seen().find(is_greatest).expect("the typings have a greatest qualifier")
     }
+}
+
+/// All codes of an order.
+fn every_code(order: &Order) -> CodeSet {
+    (1 << order.codes) - 1
+}
+
+/// Tells whether a typing has the words of a judgement, and its shapes with ANY taken as INT.
+fn is_same(judgement: &Judgement, variables: &[u8], slots: &[QualifiedType]) -> bool {
+    let same_slot = |(slot, found): (&Slot, &QualifiedType)| {
+        let has_word = found.0 == UNDECIDED || found.0 == slot.word;
+        has_word && (slot.shape == Shape::Arrow) == (found.1 != INT)
+    };
+    let same_variable = |&(variable, word): &(u8, u8)| variables[usize::from(variable)] == word;
+    judgement.variables.iter().all(same_variable)
+        && judgement.params.iter().chain(&judgement.terms).zip(slots).all(same_slot)
 }
 
 /// Advances to the next combination of digits; false after the last one.
@@ -344,42 +327,56 @@ fn advance(digits: &mut [usize], limits: &[usize]) -> bool {
     false
 }
 
-/// All typings of a table, with variables and NUM rows from all qualifiers, ANY rows from all types up to a depth.
-pub fn search(table: &Table, variables: usize, rules: Rules, depth: usize) -> Found {
-    try_choices(table, variables, rules, depth, Wanted::Typings)
+/// A table to be searched, with the order of its scheme table and how many variables it may have.
+#[derive(Clone, Copy)]
+pub struct Searched<'a> {
+    /// The order of the table's qualifiers.
+    pub order: &'a Order,
+    /// The table.
+    pub table: &'a Table,
+    /// Its named variables are `g0` and the next ones, so many.
+    pub variables: usize,
 }
 
-/// How many rows from row 0 on have such a typing.
-pub fn most_rows(table: &Table, variables: usize, rules: Rules, depth: usize) -> usize {
-    try_choices(table, variables, rules, depth, Wanted::MostRows).most_rows
-}
+impl Searched<'_> {
+    /// All typings, with variables and NUM rows from all qualifiers, ANY rows from all types up to a depth.
+    pub fn typings(self, rules: Rules, depth: usize) -> Found {
+        self.try_choices(rules, depth, Wanted::Typings)
+    }
 
-/// Tries every choice, as far as it is wanted.
-fn try_choices(
-    table: &Table,
-    variables: usize,
-    rules: Rules,
-    depth: usize,
-    wanted: Wanted,
-) -> Found {
-    let mut types = Types::default();
-    let candidates = types.up_to_depth(depth, rules.codes());
-    let unknowns = table.types.iter().filter(|&&row| row == TypeRow::Any).count();
-    let mut limits = vec![usize::from(rules.codes()); variables];
-    limits.resize(variables + unknowns, candidates.len());
-    let mut digits = vec![0; limits.len()];
-    // Only with all rules the words can be a typing's.
-    let reported = judge(table).ok().filter(|_| rules == Rules::All);
-    let choice = Choice { variables: vec![0; variables], unknowns: vec![INT; unknowns] };
-    let (type_rows, rows) = (vec![], vec![]);
-    let mut check = Check { table, rules, wanted, choice, types, reported, type_rows, rows };
-    let mut found = Found::default();
-    loop {
-        check.choice.take(&digits, &candidates);
-        check.take_type_rows();
-        check.visit(&mut found);
-        if check.is_over(&found) || !advance(&mut digits, &limits) {
-            return found;
+    /// How many rows from row 0 on have such a typing.
+    pub fn most_rows(self, rules: Rules, depth: usize) -> usize {
+        self.try_choices(rules, depth, Wanted::MostRows).most_rows
+    }
+
+    /// The rows that have a typing without qualifiers, with types up to a depth.
+    pub fn rows_with_shapes(self, depth: usize) -> usize {
+        Searched { variables: 0, ..self }.most_rows(Rules::WithoutQualifiers, depth)
+    }
+
+    /// Tries every choice, as far as it is wanted.
+    fn try_choices(self, rules: Rules, depth: usize, wanted: Wanted) -> Found {
+        let Searched { order, table, variables } = self;
+        let mut types = Types::default();
+        let candidates = types.up_to_depth(depth, rules.codes(order));
+        let unknowns = table.types.iter().filter(|&&row| row == TypeRow::Any).count();
+        let mut limits = vec![usize::from(rules.codes(order)); variables];
+        limits.resize(variables + unknowns, candidates.len());
+        let mut digits = vec![0; limits.len()];
+        // Only with all rules the words can be a typing's.
+        let reported = judge(table).ok().filter(|_| rules == Rules::All);
+        let choice = Choice { variables: vec![0; variables], unknowns: vec![INT; unknowns] };
+        let (type_rows, rows) = (vec![], vec![]);
+        let mut check =
+            Check { order, table, rules, wanted, choice, types, reported, type_rows, rows };
+        let mut found = Found::default();
+        loop {
+            check.choice.take(&digits, &candidates);
+            check.take_type_rows();
+            check.visit(&mut found);
+            if check.is_over(&found) || !advance(&mut digits, &limits) {
+                return found;
+            }
         }
     }
 }

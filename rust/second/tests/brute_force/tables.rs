@@ -2,7 +2,7 @@
 
 use second::generate::Random;
 use second::operation::Operation;
-use second::Table;
+use second::{SchemeTable, Table};
 
 /// The most that tiny tables may hold.
 pub struct Limits {
@@ -18,33 +18,49 @@ pub struct Limits {
     pub rows: usize,
 }
 
-/// What may stand behind the first four fields of a P line.
-const FLOORS: [&str; 11] =
-    ["", "", ",PLAIN", ",FHE", ",FHE", ",OP", ",DET", ",MH", ",AH", ",RAND", ",RAND"];
-
-/// The constants of a table: few make rows agree more often.
-fn constants(random: &mut Random) -> [&'static str; 3] {
-    let words = ["PLAIN", "FHE", "OP", "DET", "MH", "AH", "RAND"];
-    [random.below(7), random.below(7), 0].map(|code| words[code])
+/// The words of the lines of one table.
+struct Words {
+    /// PLAIN, behind two words of the scheme table: few make rows agree more often.
+    constants: [String; 3],
+    /// What may stand behind the first four fields of a P line; nothing and the first and the last scheme stand twice.
+    floors: Vec<String>,
 }
 
-/// A declared qualifier: one of the constants or a named variable.
-fn declared_qualifier(random: &mut Random, limits: &Limits, constants: &[&str]) -> String {
-    match random.below(3) {
-        0 => constants[random.below(constants.len())].to_string(),
-        _ if limits.variables == 0 => constants[0].to_string(),
-        _ => format!("g{}", random.below(limits.variables)),
+impl Words {
+    /// Words of a scheme table.
+    fn random(random: &mut Random, schemes: &SchemeTable) -> Words {
+        let mut words = schemes.words();
+        let codes = [random.below(words.len()), random.below(words.len()), 0];
+        let constants = codes.map(|code| words[code].clone());
+        words.insert(1, words[1].clone());
+        words.extend(words.last().cloned());
+        let floors = words.iter().map(|word| format!(",{word}"));
+        Words {
+            constants,
+            floors: [String::new(), String::new()].into_iter().chain(floors).collect(),
+        }
+    }
+
+    /// A declared qualifier: one of the constants or a named variable.
+    fn qualifier(&self, random: &mut Random, limits: &Limits) -> String {
+        match random.below(3) {
+            0 => self.constants[random.below(3)].clone(),
+            _ if limits.variables == 0 => self.constants[0].clone(),
+            _ => format!("g{}", random.below(limits.variables)),
+        }
     }
 }
 
 /// A random tiny table within the limits, mostly not closed: any rows may stand beside others.
-pub fn tiny_table(random: &mut Random, limits: &Limits) -> Table {
-    let mut table = Table::fresh();
-    let constants = constants(random);
+pub fn tiny_table(random: &mut Random, schemes: &SchemeTable, limits: &Limits) -> Table {
+    let mut table = Table::fresh_of(schemes.clone());
+    let words = Words::random(random, schemes);
     let mut counts = [0; 3];
     for _ in 0..6 * limits.rows + 12 {
-        let line = tiny_line(random, &table, limits, &constants);
-        let has = |words: &[&str]| words.iter().any(|word| line.contains(word));
+        let line = tiny_line(random, &table, limits, &words);
+        // A qualifier may have the word of a kind, and stands in this place of a P line.
+        let kind = line.split(',').nth(2).filter(|_| !line.starts_with('P'));
+        let has = |words: &[&str]| kind.is_some_and(|kind| words.contains(&kind));
         let kinds = [has(&["ANY"]), has(&["ARROW", "LAM", "APP"]), has(&["ENC"])];
         let most = [limits.unknowns, limits.arrows, limits.constants];
         let full = (0..3).any(|kind| kinds[kind] && counts[kind] >= most[kind])
@@ -62,9 +78,9 @@ pub fn tiny_table(random: &mut Random, limits: &Limits) -> Table {
 }
 
 /// A random tiny table that is closed; it may have more rows than the limits say.
-pub fn closed_table(random: &mut Random, limits: &Limits) -> Table {
+pub fn closed_table(random: &mut Random, schemes: &SchemeTable, limits: &Limits) -> Table {
     loop {
-        let mut table = tiny_table(random, limits);
+        let mut table = tiny_table(random, schemes, limits);
         close(random, &mut table);
         if table.closed() {
             return table;
@@ -75,10 +91,10 @@ pub fn closed_table(random: &mut Random, limits: &Limits) -> Table {
 /// A random closed table in which a function of x is applied: at once, or as the argument of a function that applies it.
 ///
 /// Parameter 0 is x, parameter 1 takes functions, and parameter 2 is bound outside. Only the limit on variables counts.
-pub fn applying_table(random: &mut Random, limits: &Limits) -> Table {
-    let constants = constants(random);
-    let mut table = Table::fresh();
-    let mut qualifier = || declared_qualifier(random, limits, &constants);
+pub fn applying_table(random: &mut Random, schemes: &SchemeTable, limits: &Limits) -> Table {
+    let words = Words::random(random, schemes);
+    let mut table = Table::fresh_of(schemes.clone());
+    let mut qualifier = || words.qualifier(random, limits);
     let (argument, result, x, outer) = (qualifier(), qualifier(), qualifier(), qualifier());
     for line in [
         "T,0,INT".to_string(),
@@ -89,9 +105,9 @@ pub fn applying_table(random: &mut Random, limits: &Limits) -> Table {
     ] {
         table.add(line.as_bytes());
     }
-    let body = operand(random, &mut table, 0, &constants);
+    let body = operand(random, &mut table, 0, &words);
     let function = add_row(&mut table, format!("LAM,0,{body}"));
-    let argument = operand(random, &mut table, 2, &constants);
+    let argument = operand(random, &mut table, 2, &words);
     let call = if random.one_in(2) {
         add_row(&mut table, format!("APP,{function},{argument}"))
     } else {
@@ -101,26 +117,58 @@ pub fn applying_table(random: &mut Random, limits: &Limits) -> Table {
         add_row(&mut table, format!("APP,{taking},{function}"))
     };
     if random.one_in(2) {
-        let other = leaf(random, &mut table, 2, &constants);
+        let other = leaf(random, &mut table, 2, &words);
         add_operation(random, &mut table, call, other);
     }
     close(random, &mut table);
     table
 }
 
+/// A random closed table in which one qualifier has several bounds: sums and products of one another, and any operation at the end.
+///
+/// Leaves are VARs of three parameters, and numbers. Only the limit on variables counts.
+pub fn chained_table(random: &mut Random, schemes: &SchemeTable, limits: &Limits) -> Table {
+    let words = Words::random(random, schemes);
+    let mut table = Table::fresh_of(schemes.clone());
+    table.add(b"T,0,INT");
+    for own in 0..3 {
+        let qualifier = words.qualifier(random, limits);
+        let floor = &words.floors[random.below(words.floors.len())];
+        table.add(format!("P,{own},{qualifier},0{floor}").as_bytes());
+    }
+    let mut row = chained_leaf(random, &mut table);
+    for _ in 0..random.below(4) {
+        let leaf = chained_leaf(random, &mut table);
+        let operation = if random.one_in(2) { "ADD" } else { "MUL" };
+        row = add_row(&mut table, format!("OP,{operation},{row},{leaf}"));
+    }
+    let leaf = chained_leaf(random, &mut table);
+    add_operation(random, &mut table, row, leaf);
+    close(random, &mut table);
+    table
+}
+
+/// A VAR of a parameter, or a number.
+fn chained_leaf(random: &mut Random, table: &mut Table) -> usize {
+    match random.below(4) {
+        3 => add_row(table, "NUM,1".to_string()),
+        parameter => add_row(table, format!("VAR,{parameter}")),
+    }
+}
+
 /// A leaf, or an operation on two, with VARs of one parameter.
-fn operand(random: &mut Random, table: &mut Table, parameter: usize, constants: &[&str]) -> usize {
-    let one = leaf(random, table, parameter, constants);
+fn operand(random: &mut Random, table: &mut Table, parameter: usize, words: &Words) -> usize {
+    let one = leaf(random, table, parameter, words);
     if random.one_in(2) {
         return one;
     }
-    let other = leaf(random, table, parameter, constants);
+    let other = leaf(random, table, parameter, words);
     add_operation(random, table, one, other)
 }
 
 /// A number, a VAR of a parameter, or an encrypted number.
-fn leaf(random: &mut Random, table: &mut Table, parameter: usize, constants: &[&str]) -> usize {
-    let scheme = constants[random.below(2)];
+fn leaf(random: &mut Random, table: &mut Table, parameter: usize, words: &Words) -> usize {
+    let scheme = &words.constants[random.below(2)];
     let term = match random.below(6) {
         0 | 1 => format!("VAR,{parameter}"),
         // The line of an ENC with PLAIN is refused.
@@ -165,15 +213,15 @@ fn unused_rows(table: &Table) -> Vec<usize> {
 }
 
 /// A random line for the next row of some list; it may be refused.
-fn tiny_line(random: &mut Random, table: &Table, limits: &Limits, constants: &[&str]) -> String {
+fn tiny_line(random: &mut Random, table: &Table, limits: &Limits, words: &Words) -> String {
     let (types, params, rows) = (table.types.len(), table.params.len(), table.terms.len());
-    let mut qualifier = || declared_qualifier(random, limits, constants);
+    let mut qualifier = || words.qualifier(random, limits);
     let (one, other) = (qualifier(), qualifier());
     let (type_row, type_row2) = (random.below(types), random.below(types));
     let (parameter, row, row2) = (random.below(params), random.below(rows), random.below(rows));
-    let scheme = constants[random.below(constants.len())];
+    let scheme = &words.constants[random.below(3)];
     let operation = Operation::ALL[random.below(5)].word();
-    let floor = FLOORS[random.below(FLOORS.len())];
+    let floor = &words.floors[random.below(words.floors.len())];
     match random.below(22) {
         0 => format!("T,{types},INT"),
         1 => format!("T,{types},ANY"),

@@ -6,13 +6,32 @@
 pub use second::generate::text_of_lines as text;
 use second::line::read;
 use second::place::inferred;
-use second::{place, Table};
+use second::{entry_under, place, Table};
 
 /// Asserts what `place` prints for a program, both given as words separated by white space.
 pub fn assert_prints(program: &str, expected: &str) {
     let printed = String::from_utf8(place(&text(program))).unwrap();
     let expected = String::from_utf8(text(expected)).unwrap();
     assert_eq!(printed, expected, "for the program {program}");
+}
+
+/// Asserts the report of a program under a scheme file, all three given as words separated by white space.
+pub fn assert_report_under(file: &str, program: &str, report: &str) {
+    let mut buffer = [0x5A; 6280];
+    let returned = entry_under(&text(file), &text(program), &mut buffer);
+    assert!(returned > 100_000, "{returned} for the program {program}");
+    let (found, rest) = buffer.split_at(returned as usize - 100_000);
+    let expected = String::from_utf8(text(report)).unwrap();
+    assert_eq!(String::from_utf8_lossy(found), expected, "for the program {program}");
+    assert!(rest.iter().all(|&byte| byte == 0x5A), "for the program {program}");
+}
+
+/// Asserts what the entry returns for a program that is refused under a scheme file, and that it leaves the buffer.
+pub fn assert_refused_under(file: &str, program: &str, returns: u32) {
+    let mut buffer = [0x5A; 6280];
+    let returned = entry_under(&text(file), &text(program), &mut buffer);
+    assert_eq!(returned, returns, "for the program {program}");
+    assert!(buffer.iter().all(|&byte| byte == 0x5A), "for the program {program}");
 }
 
 /// Asserts that none of these lines has one of the forms.

@@ -1,0 +1,153 @@
+//! Compares what the solver says of one table with what the search finds, and counts the tables.
+
+use crate::search::{Found, Rules, Searched};
+use second::generate::NumberCounts;
+use second::report::LONGEST_REPORT;
+use second::schemes::PLAIN;
+use second::typing::{judge, Shape};
+use second::{Answer, Table};
+
+/// How many tables of each kind a test met.
+#[derive(Debug, Default)]
+pub struct Tally {
+    /// Tables that have a typing.
+    pub accepted: usize,
+    /// Tables that have none, by the numbers 21 to 23.
+    pub refused: [usize; 3],
+    /// Closed tables with a typing and floors that are not all PLAIN, by how many are missed: none, one, several.
+    floors: [usize; 3],
+    /// The NUM rows of all tables.
+    pub numbers: NumberCounts,
+}
+
+impl Tally {
+    /// Counts a table by the refusal's number, 0 for none.
+    pub fn count(&mut self, number: u32) {
+        match number {
+            0 => self.accepted += 1,
+            _ => self.refused[number as usize - 21] += 1,
+        }
+    }
+
+    /// Asserts that floors were met, that one was missed, and that several were, so often each.
+    pub fn assert_each_floor(&self, fewest: usize) {
+        assert!(self.floors.iter().all(|&count| count >= fewest), "{self:?}");
+    }
+
+    /// Counts a closed table that has a typing by how many of its floors are missed.
+    fn count_floors(&mut self, table: &Table, missed: usize) {
+        if table.params.iter().any(|parameter| parameter.floor != PLAIN) {
+            self.floors[missed.min(2)] += 1;
+        }
+    }
+}
+
+/// The refusal's number and row, 0 and the number of rows if there is none.
+pub fn verdict(table: &Table) -> (u32, usize) {
+    match judge(table) {
+        Ok(_) => (0, table.terms.len()),
+        Err(refusal) => (refusal.number, refusal.row as usize),
+    }
+}
+
+/// The same verdict from searches that respect more and more of the rules.
+fn searched_verdict(rows: usize, all: usize, without_bounds: usize, shapes: usize) -> (u32, usize) {
+    let number = match all {
+        _ if all == rows => 0,
+        _ if shapes == all => 21,
+        _ if without_bounds == all => 22,
+        _ => 23,
+    };
+    (number, all)
+}
+
+/// Asserts what infer answers for a table with this verdict by the typings found; counts the floors of a closed one.
+///
+/// It is 24 exactly where the table is closed and has typings, but none of them meets every floor.
+fn compare_answer(searched: Searched, verdict: (u32, usize), found: &Found, tally: &mut Tally) {
+    let Searched { order, table, variables } = searched;
+    let expected = match verdict {
+        _ if !table.closed() => (10, 0),
+        (0, _) => {
+            let missed = found.missed_floors(order, table, variables);
+            tally.count_floors(table, missed.len());
+            if found.meets_every_floor {
+                (0, 0)
+            } else {
+                (24, missed[0])
+            }
+        }
+        refusal => refusal,
+    };
+    let Answer { number, row, .. } = table.infer(&mut [0; LONGEST_REPORT]);
+    assert_eq!((number, row as usize), expected, "in {table:?}");
+}
+
+/// Asserts that the solver's words are the greatest found, and that together they are a typing.
+fn assert_greatest_words(searched: Searched, found: &Found) {
+    let Searched { order, table, variables } = searched;
+    let judgement = judge(table).unwrap();
+    for &(variable, word) in &judgement.variables {
+        assert_eq!(found.greatest(order, usize::from(variable)), word, "in {table:?}");
+    }
+    let slots = judgement.params.iter().chain(&judgement.terms);
+    for (number, slot) in slots.enumerate() {
+        assert_eq!(found.greatest(order, variables + number), slot.word, "in {table:?}");
+    }
+    assert!(found.has_reported, "the words are no typing in {table:?}");
+}
+
+/// Asserts that the solver's shapes are those found.
+pub fn assert_shapes(table: &Table, found: &Found) {
+    let judgement = judge(table).unwrap();
+    let slots = judgement.params.iter().chain(&judgement.terms);
+    for (slot, &seen) in slots.zip(&found.shapes) {
+        let expected = match seen {
+            (true, true) => Shape::Any,
+            (true, false) => Shape::Int,
+            _ => Shape::Arrow,
+        };
+        assert_eq!(slot.shape, expected, "in {table:?}");
+    }
+}
+
+/// Compares and counts a table without ANY rows, for which the search is complete; gives what it found.
+pub fn compare_complete(searched: Searched, tally: &mut Tally) -> Found {
+    let table = searched.table;
+    let all = searched.typings(Rules::All, 0);
+    let without_bounds = searched.most_rows(Rules::WithoutBounds, 0);
+    let shapes = searched.rows_with_shapes(0);
+    let expected = searched_verdict(table.terms.len(), all.most_rows, without_bounds, shapes);
+    assert_eq!(verdict(table), expected, "in {table:?}");
+    tally.count(expected.0);
+    tally.numbers.take(table);
+    if expected.0 == 0 {
+        assert_greatest_words(searched, &all);
+        assert_shapes(table, &all);
+    }
+    compare_answer(searched, expected, &all, tally);
+    all
+}
+
+/// Compares a table of at most three arrows and counts it; tells whether the depth suffices for it.
+pub fn compare(searched: Searched, depth: usize, tally: &mut Tally) -> bool {
+    let table = searched.table;
+    // Depth 3 suffices for three arrows; a lower depth that reaches as far suffices too.
+    let shapes = searched.rows_with_shapes(3);
+    let all = searched.typings(Rules::All, depth);
+    if searched.rows_with_shapes(depth) != shapes {
+        // A search that misses types still never reaches further than the solver.
+        assert!(all.most_rows <= verdict(table).1, "in {table:?}");
+        return false;
+    }
+    let without_bounds = searched.most_rows(Rules::WithoutBounds, depth);
+    let expected = searched_verdict(table.terms.len(), all.most_rows, without_bounds, shapes);
+    assert_eq!(verdict(table), expected, "in {table:?}");
+    tally.count(expected.0);
+    tally.numbers.take(table);
+    if expected.0 == 0 {
+        assert_greatest_words(searched, &all);
+    }
+    compare_answer(searched, expected, &all, tally);
+    true
+}
