@@ -1,4 +1,4 @@
--- A well-formed table that a machine can hold has something judged of it: `judge` returns on it, and then its contract says so.
+-- A table that is ready and that a machine can hold has something judged of it: `judge` returns on it, and then its contract says so.
 use mathlib.Core.Logic.{∥∥₁-prop, ∥∥₁-elim}
 use mathlib.Core.List.{[], _∷_}
 use Prim.Native.Nat.{ℕ}
@@ -22,9 +22,9 @@ use denote.Triple.Spec.{tripleOf, Back}
 use denote.Triple.Statement.{Contract}
 use denote.Triple.End.{lastsOf}
 use denote.Triple.Adequate.{adequate}
-use Rattle.model.specs.WellFormed.{WellFormed}
 use Rattle.table.specs.declared.Table.{Table}
 use Rattle.table.specs.Lists.{lists}
+use Rattle.table.specs.Ready.{Ready}
 use Rattle.table.proofs.Table as TableType
 use Rattle.table.proofs.Table.Laws as TableLaws
 use Rattle.table.proofs.Counts.{Owned}
@@ -47,7 +47,7 @@ says = tripleOf Closed.𝓤 Closed.H (ghost₀ .A) judge.signature (judge.spec C
 abbrev begun : Assertion
 begun = sep Closed.𝓤 (run Closed.𝓤 Closed.H fullShare w8 0 0 []) (run Closed.𝓤 Closed.H fullShare w8 1 0 [])
 
-module _ (t : Table) (owned : Owned t) (formed : WellFormed (lists t)) where
+module _ (t : Table) (owned : Owned t) (ready : Ready t) where
   abbrev asked : says .Ghost
   asked = ((tt, tt, tt, (t, tt), (Struct.vals TableType.the-type TableLaws.the-laws t, tt)), tt)
 
@@ -59,7 +59,7 @@ module _ (t : Table) (owned : Owned t) (formed : WellFormed (lists t)) where
       (via Closed.𝓤 _ (emp∗ Closed.𝓤 (emp Closed.𝓤))
       (mono∗ Closed.𝓤 (id⊢ Closed.𝓤 (emp Closed.𝓤))
       (owns-make Closed.𝓤 Closed.H (ghost₀ .A) (TableType.the-row ∷ []) (Ises (TableType.the-row ∷ [])) (Struct.makes TableType.the-type TableLaws.the-plain Closed.𝓤 Closed.H (ghost₀ .A), tt) (t, tt) (asked .0 .4) (owned, tt))))
-      (factI Closed.𝓤 (WellFormed (lists t)) (emp Closed.𝓤) formed))
+      (factI Closed.𝓤 (Ready t) (emp Closed.𝓤) ready))
 
   -- what it returns with, whatever that is, says what is judged
   exit : (v : Val) (σ : Memory) → Satisfies Closed.𝓤 Closed.H Closed.model σ (sep Closed.𝓤 (says .post asked v) begun) → ∥ HasJudgement (lists t) ∥₁

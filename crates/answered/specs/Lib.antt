@@ -1,1 +1,2 @@
 pub mod Judgement
+pub mod Answers

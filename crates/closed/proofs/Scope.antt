@@ -28,13 +28,13 @@ one-of-two P c a b h x y =
     (λ e. subst P (sym (is-one c b e)) y)
 
 -- A child is below its parent.
-child-below : (term : Term) (params i c : ℕ) → TermStands params i term → contains c (children term) ≡ true → c < i
-child-below (Lam p b) params i c stands h = subst (λ (k : ℕ). k < i) (sym (is-one c b h)) (stands .1)
-child-below (App f a) params i c stands h = one-of-two (λ k. k < i) c f a h (stands .0) (stands .1)
-child-below (Op o l r) params i c stands h = one-of-two (λ k. k < i) c l r h (stands .1) (stands .2)
-child-below (Var p) params i c stands h = absurd (false≢true h)
-child-below (Num n) params i c stands h = absurd (false≢true h)
-child-below (Enc s n) params i c stands h = absurd (false≢true h)
+child-below : (term : Term) (w params i c : ℕ) → TermStands w params i term → contains c (children term) ≡ true → c < i
+child-below (Lam p b) w params i c stands h = subst (λ (k : ℕ). k < i) (sym (is-one c b h)) (stands .1)
+child-below (App f a) w params i c stands h = one-of-two (λ k. k < i) c f a h (stands .0) (stands .1)
+child-below (Op o l r) w params i c stands h = one-of-two (λ k. k < i) c l r h (stands .1) (stands .2)
+child-below (Var p) w params i c stands h = absurd (false≢true h)
+child-below (Num n) w params i c stands h = absurd (false≢true h)
+child-below (Enc s n) w params i c stands h = absurd (false≢true h)
 
 -- Only a LAM binds a parameter.
 binder : (term : Term) (q : ℕ) → contains q (binds term) ≡ true → (b : ℕ) × (term ≡ Lam q b)
@@ -55,7 +55,7 @@ pub record Scope (m : Machine) (k set : ℕ) : Type 0 where
 
 module _ (m : Machine) (w : WellFormed m) where
   pub parent-above : (r c : ℕ) → r < length (m .terms) → contains c (children (termAt m r)) ≡ true → c < r
-  parent-above r c h e = child-below (termAt m r) _ r c (w .terms-stand r h) e
+  parent-above r c h e = child-below (termAt m r) _ _ r c (w .terms-stand r h) e
 
   -- What stands beneath a row has no greater number.
   beneath-below : {b v : ℕ} → Beneath m b v → v ≤ b

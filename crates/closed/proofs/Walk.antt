@@ -10,6 +10,7 @@ use lib.Dec.{eqb}
 use lib.ListN.{length, getD, set, replicate, length-set}
 use lib.Seq.{getD-set-same, getD-set-other}
 use borrow.Author.Tests.{eqb-true, eqb-false, eq-eqb, not-true, not-false}
+use Rattle.scheme.specs.Schemes.{words}
 use Rattle.model.specs.Lists.{allOf, contains}
 use Rattle.model.specs.Machine.{Machine, noTermRow, termAt, children, binds, used}
 use Rattle.model.specs.Closed.{Closed, Inside}
@@ -83,7 +84,7 @@ module _ (m : Machine) (w : WellFormed m) where
   -- A VAR names one of at most 64 parameters.
   pub var-below : (r p : ℕ) → r < length (m .terms) → termAt m r ≡ Var p → p < 64
   var-below r p h var =
-      let declared : p < length (m .params) = subst (TermStands (length (m .params)) r) var (w .terms-stand r h) in
+      let declared : p < length (m .params) = subst (TermStands (words (m .schemes)) (length (m .params)) r) var (w .terms-stand r h) in
       omega (arith, w .params-fit)
 
   -- Before the first turn only the last row is marked, and nothing is in scope there.

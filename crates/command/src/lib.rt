@@ -6,8 +6,8 @@ ghost use Rattle.model.specs.Script.{begins, beforeBlank, redeclareOf, argument
 ghost use Rattle.command.specs.Said.{said};
 use line::numbers::number_in;
 use line::words::same;
+use lines::find;
 use model::Field;
-use text::find;
 
 // A command; the line of an add starts after its first four bytes, "add ".
 pub enum Command {

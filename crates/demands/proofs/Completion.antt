@@ -3,13 +3,12 @@ use Prim.Native.Nat.{ℕ}
 use mathlib.Core.List.{List}
 use mathlib.Core.Path.{_≡_, refl, subst}
 use Rattle.model.specs.Machine.{Machine}
-use Rattle.model.specs.Strength.{six}
-use Rattle.model.specs.Inference.{Slot, Listed, typeOf, Shape, ShapeSays, GreatestTyping}
+use Rattle.model.specs.Inference.{ruling, Slot, Listed, typeOf, Shape, ShapeSays, GreatestTyping}
 use Rattle.model.specs.Session.{Call, infer, Outcome, Infers, Answers, infers}
 use Rattle.inference.proofs.Corollaries.{reported-greatest}
 use Rattle.demands.specs.Completion.{HasShape, Completes, ReportsTyping}
 
-pub completes : {m : Machine} {word : Slot → ℕ} {shape : Slot → Shape} → GreatestTyping six m word shape → Completes m word shape
+pub completes : {m : Machine} {word : Slot → ℕ} {shape : Slot → Shape} → GreatestTyping (ruling m) m word shape → Completes m word shape
 completes {m} {shape = shape} a =
     record {
       typing = a .together .0;
@@ -18,7 +17,7 @@ completes {m} {shape = shape} a =
       has-shapes = λ x l. by x l (shape x) refl (a .shaped x l);
     }
   where
-    by : (x : Slot) → Listed six m x → (h : Shape) → shape x ≡ h → ShapeSays six m x h → HasShape h (typeOf (a .together .0) x)
+    by : (x : Slot) → Listed (ruling m) m x → (h : Shape) → shape x ≡ h → ShapeSays (ruling m) m x h → HasShape h (typeOf (a .together .0) x)
     by x l Shape.int e says = says (a .together .0) (a .together .1)
     by x l Shape.arrow e says = says (a .together .0) (a .together .1)
     by x l Shape.any e says = a .together .3 x l e

@@ -5,14 +5,18 @@ use mathlib.Core.Bool.{true}
 use mathlib.Core.List.{List, [], _∷_, _++_, map}
 use mathlib.Core.Path.{_≡_}
 use lib.ListN.{length, getD, take, drop}
+use Rattle.scheme.specs.Schemes.{SchemeTable, Sound}
+use Rattle.scheme.specs.Six.{sixTable}
+use Rattle.scheme.proofs.Six.{six-sound}
+use Rattle.schemes.specs.Schemes.{Kept}
 use Rattle.model.specs.Lists.{contains, bytes}
-use Rattle.model.specs.Word.{capitals, wordOf, qualifierOf, qualifierWord}
+use Rattle.model.specs.Word.{qualifierWords, capitals, wordOf, qualifierOf, qualifierWord}
 use Rattle.model.specs.Line.{field, lineOf}
 use Rattle.model.specs.Machine.{Machine, freshMachine, paramAt}
 use Rattle.model.specs.Closed.{Closed}
 use Rattle.model.specs.Typing.{Typable}
-use Rattle.model.specs.Strength.{whole, six}
-use Rattle.model.specs.Inference.{Slot, Shape, Refusal, GreatestTyping}
+use Rattle.model.specs.Strength.{whole}
+use Rattle.model.specs.Inference.{ruling, Slot, Shape, Refusal, GreatestTyping}
 use Rattle.model.specs.Report.{report}
 use Rattle.model.specs.Session.{Call, add, redeclare, take-back, infer, Outcome, returning, Infers, Answers, adds, redeclares, takes-back, Session}
 use Rattle.model.specs.Text.{linesOf, Prints, Returns}
@@ -26,7 +30,7 @@ use Rattle.table.specs.Lists.{lists}
 use Rattle.table.specs.Called.{Called}
 use Rattle.table.specs.declared.Table.{Table}
 use Rattle.inference.specs.Ran.{Step, changes, Ran}
-use Rattle.inference.proofs.Follows.{session-follows}
+use Rattle.inference.proofs.Follows.{tables-follow, session-follows}
 use Rattle.inference.proofs.Corollaries.{open-exactly, refused-untypable, untypable-refused, reported-greatest}
 use Rattle.answered.proofs.Answered.{every-list-answered as list-has-answers}
 use Rattle.text.proofs.Front.{prints-front, returns-front}
@@ -66,13 +70,17 @@ pub changes-answered : (m : Machine) → ((s : List ℕ) → HasAnswer m (add s)
 changes-answered m = (λ s. (_, _, adds), λ p code. (_, _, redeclares), (_, _, takes-back))
 
 -- So every list of calls has answers, infers among them: that infer's code returns on every table that the calls reach is taken from its proof.
-pub every-list-answered : (calls : List Call) → ∥ ((trace : List (Call × Outcome)) × (map (λ step. step .0) trace ≡ calls) × Session freshMachine trace) ∥₁
-every-list-answered = list-has-answers
+pub every-list-answered-of-tables : (T : SchemeTable) → Sound T → (calls : List Call) →
+    ∥ ((trace : List (Call × Outcome)) × (map (λ step. step .0) trace ≡ calls) × Session (freshMachine T) trace) ∥₁
+every-list-answered-of-tables = list-has-answers
+
+pub every-list-answered : (calls : List Call) → ∥ ((trace : List (Call × Outcome)) × (map (λ step. step .0) trace ≡ calls) × Session (freshMachine sixTable) trace) ∥₁
+every-list-answered = list-has-answers sixTable six-sound
 
 -- Demand 2. "The table is the one that the accepted calls describe, redeclare and take-back included": every call of every list is answered
 -- for the machine that the accepted calls before it describe, and leaves the one that they describe together with it.
-pub demand-2-table : {call : Call} {o : Outcome} (before rest : List (Call × Outcome)) → Session freshMachine (before ++ ((call, o) ∷ rest)) →
-    Answers (standing freshMachine before) call o (standing freshMachine (before ++ ((call, o) ∷ [])))
+pub demand-2-table : {T : SchemeTable} {call : Call} {o : Outcome} (before rest : List (Call × Outcome)) → Session (freshMachine T) (before ++ ((call, o) ∷ rest)) →
+    Answers (standing (freshMachine T) before) call o (standing (freshMachine T) (before ++ ((call, o) ∷ [])))
 demand-2-table = session-standing
 
 -- "An accepted inference reports schemes and shapes that complete to a typing by the seven rules of UCLA Technical Report 130012": with the rule of
@@ -81,15 +89,19 @@ pub demand-2-report : {m : Machine} {buffer : List ℕ} {o : Outcome} → Infers
 demand-2-report = reports-typing
 
 -- Both, of every call of every list.
-pub demand-2 : {call : Call} {o : Outcome} (before rest : List (Call × Outcome)) → Session freshMachine (before ++ ((call, o) ∷ rest)) →
-    Answers (standing freshMachine before) call o (standing freshMachine (before ++ ((call, o) ∷ [])))
-    × ((buffer : List ℕ) → call ≡ infer buffer → o .number ≡ 0 → ReportsTyping (standing freshMachine before) buffer o)
+pub demand-2 : {T : SchemeTable} {call : Call} {o : Outcome} (before rest : List (Call × Outcome)) → Session (freshMachine T) (before ++ ((call, o) ∷ rest)) →
+    Answers (standing (freshMachine T) before) call o (standing (freshMachine T) (before ++ ((call, o) ∷ [])))
+    × ((buffer : List ℕ) → call ≡ infer buffer → o .number ≡ 0 → ReportsTyping (standing (freshMachine T) before) buffer o)
 demand-2 before rest session = let answer = session-standing before rest session in (answer, answered-reports answer)
 
 -- Demand 3. Every list of add, redeclare, take-back and infer calls from a fresh table, with any bytes, numbers and buffers, accepted or
 -- refused, each given the table that the one before it handed back: the whole list's answers are those of document 01.
--- `Ran` holds of a list exactly what the contracts of the four functions say of its calls; `Table::fresh` ensures the premise.
-pub demand-3 : {t : Table} {trace : List (Call × Outcome)} → lists t ≡ freshMachine → Ran t trace → Session freshMachine trace
+-- `Ran` holds of a list exactly what the contracts of the four functions say of its calls. Document 02, d): "Demand 3 as a whole is shown one time
+-- for every accepted scheme table, and the built-in six are one instance"; `Table::fresh` ensures the premise of that instance.
+pub demand-3-of-tables : {t : Table} {trace : List (Call × Outcome)} (T : SchemeTable) → lists t ≡ freshMachine T → Kept (t .schemes) → Ran t trace → Session (freshMachine T) trace
+demand-3-of-tables = tables-follow
+
+pub demand-3 : {t : Table} {trace : List (Call × Outcome)} → (lists t ≡ freshMachine sixTable) × Kept (t .schemes) → Ran t trace → Session (freshMachine sixTable) trace
 demand-3 = session-follows
 
 -- A call through the layer that lends the table is a step of such a list: lent/proofs/Covered.antt has the premise from each function's contract.
@@ -98,7 +110,7 @@ pub lent-covered : {before after : Table} {call : Call} {number : ℕ} → Calle
 lent-covered called = changes called
 
 -- These answers are determined: the same calls have the same numbers, rows, lengths and bytes.
-pub answers-determined : {m : Machine} {trace trace′ : List (Call × Outcome)} →
+pub answers-determined : {m : Machine} {trace trace′ : List (Call × Outcome)} → Sound (m .schemes) →
     Session m trace → Session m trace′ → map (λ step. step .0) trace ≡ map (λ step. step .0) trace′ → trace ≡ trace′
 answers-determined = session-same
 
@@ -114,20 +126,20 @@ refused-10-exactly = open-exactly
 
 -- 21 to 23 only where no typing exists, naming the least row; and always where none exists.
 pub refused-only-untypable : {m : Machine} {buffer : List ℕ} {o : Outcome} → Infers m buffer o → 21 ≤ o .number → o .number ≤ 23 →
-    Refusal six m (o .number) (o .row) × ¬ Typable (whole six) m (length (m .terms))
+    Refusal (ruling m) m (o .number) (o .row) × ¬ Typable (whole (ruling m)) m (length (m .terms))
 refused-only-untypable = refused-untypable
 
 pub untypable-always-refused : {m : Machine} {buffer : List ℕ} {o : Outcome} → Infers m buffer o → 6280 ≤ length buffer → Closed m →
-    ¬ Typable (whole six) m (length (m .terms)) → (21 ≤ o .number) × (o .number ≤ 23)
+    ¬ Typable (whole (ruling m)) m (length (m .terms)) → (21 ≤ o .number) × (o .number ≤ 23)
 untypable-always-refused = untypable-refused
 
 -- "otherwise it accepts exactly when the greatest typing meets every floor"
-pub accepted-exactly : {m : Machine} {buffer : List ℕ} {o : Outcome} → Infers m buffer o → 6280 ≤ length buffer → Closed m →
+pub accepted-exactly : {m : Machine} {buffer : List ℕ} {o : Outcome} → Infers m buffer o → 6280 ≤ length buffer → Closed m → Sound (m .schemes) →
     (o .number ≡ 0 → GreatestMeetsFloors m) × (GreatestMeetsFloors m → o .number ≡ 0)
 accepted-exactly = accepted-greatest
 
 -- "and returns 24 if not": exactly where the program has typings and the greatest one misses a floor, naming the lowest such parameter.
-pub refused-24-exactly : {m : Machine} {buffer : List ℕ} {o : Outcome} → Infers m buffer o → 6280 ≤ length buffer → Closed m →
+pub refused-24-exactly : {m : Machine} {buffer : List ℕ} {o : Outcome} → Infers m buffer o → 6280 ≤ length buffer → Closed m → Sound (m .schemes) →
     (o .number ≡ 24 → GreatestMissesFloor m (o .row)) × ((p : ℕ) → GreatestMissesFloor m p → (o .number ≡ 24) × (o .row ≡ p))
 refused-24-exactly = missed-greatest
 
@@ -147,8 +159,8 @@ accepted-where-some-meets = accepted-some
 
 -- So it is 24 exactly where typings exist and none of them meets every floor.
 pub refused-24-where-none-meets : {m : Machine} {buffer : List ℕ} {o : Outcome} → Infers m buffer o → 6280 ≤ length buffer → Closed m →
-    (o .number ≡ 24 → Typable (whole six) m (length (m .terms)) × ¬ SomeMeetsFloors m)
-    × (Typable (whole six) m (length (m .terms)) → ¬ SomeMeetsFloors m → o .number ≡ 24)
+    (o .number ≡ 24 → Typable (whole (ruling m)) m (length (m .terms)) × ¬ SomeMeetsFloors m)
+    × (Typable (whole (ruling m)) m (length (m .terms)) → ¬ SomeMeetsFloors m → o .number ≡ 24)
 refused-24-where-none-meets = missed-every
 
 -- The report of an accepted call: every typing is at or below its words (`greatest`), and one typing has all of them (`together`).
@@ -157,21 +169,34 @@ pub report-is-greatest : {m : Machine} {buffer : List ℕ} {o : Outcome} → Inf
     × (shape : Slot → Shape)
     × (o .size ≡ length (report m word shape))
     × (o .buffer ≡ report m word shape ++ drop (length (report m word shape)) buffer)
-    × GreatestTyping six m word shape
+    × GreatestTyping (ruling m) m word shape
 report-is-greatest = reported-greatest
 
 -- What the program prints and what the loader's entry returns are determined by their inputs; a text by its first 25,025 bytes.
-pub printed-determined : {text out out′ : List ℕ} → Prints text out → Prints text out′ → out ≡ out′
-printed-determined = prints-same
+module _ {T : SchemeTable} (sound : Sound T) where
+  pub printed-determined-of-tables : {text out out′ : List ℕ} → Prints T text out → Prints T text out′ → out ≡ out′
+  printed-determined-of-tables = prints-same T sound
 
-pub printed-front : {text out : List ℕ} → Prints (take 25025 text) out → Prints text out
-printed-front = prints-front
+  pub printed-front-of-tables : {text out : List ℕ} → Prints T (take 25025 text) out → Prints T text out
+  printed-front-of-tables = prints-front sound
 
-pub returned-front : {text buffer b : List ℕ} {n : ℕ} → Returns (take 25025 text) buffer n b → Returns text buffer n b
-returned-front = returns-front
+  pub returned-front-of-tables : {text buffer b : List ℕ} {n : ℕ} → Returns T (take 25025 text) buffer n b → Returns T text buffer n b
+  returned-front-of-tables = returns-front sound
 
-pub returned-determined : {text buffer b b′ : List ℕ} {n n′ : ℕ} → Returns text buffer n b → Returns text buffer n′ b′ → (n ≡ n′) × (b ≡ b′)
-returned-determined = returns-same
+  pub returned-determined-of-tables : {text buffer b b′ : List ℕ} {n n′ : ℕ} → Returns T text buffer n b → Returns T text buffer n′ b′ → (n ≡ n′) × (b ≡ b′)
+  returned-determined-of-tables = returns-same T sound
+
+pub printed-determined : {text out out′ : List ℕ} → Prints sixTable text out → Prints sixTable text out′ → out ≡ out′
+printed-determined = prints-same sixTable six-sound
+
+pub printed-front : {text out : List ℕ} → Prints sixTable (take 25025 text) out → Prints sixTable text out
+printed-front = prints-front six-sound
+
+pub returned-front : {text buffer b : List ℕ} {n : ℕ} → Returns sixTable (take 25025 text) buffer n b → Returns sixTable text buffer n b
+returned-front = returns-front six-sound
+
+pub returned-determined : {text buffer b b′ : List ℕ} {n n′ : ℕ} → Returns sixTable text buffer n b → Returns sixTable text buffer n′ b′ → (n ≡ n′) × (b ≡ b′)
+returned-determined = returns-same sixTable six-sound
 
 -- The session. What the contract of `placement_session` says of a script: its calls are one list of demand 3, and all that is written is that
 -- list's answers. Every slice is shorter than the largest number.
@@ -183,7 +208,7 @@ pub session-determined : {script output after after′ : List ℕ} {n n′ : ℕ
 session-determined = responds-same
 
 -- A line's first 69 bytes decide its answer; the program `session` keeps no more of a line.
-pub session-front : {m after : Machine} {s w : List ℕ} → Replies m (take 69 s) w after → Replies m s w after
+pub session-front : {m after : Machine} {s w : List ℕ} → Sound (m .schemes) → Replies m (take 69 s) w after → Replies m s w after
 session-front = reply-front
 
 -- Every list of calls is a script. The line for a call makes that call, and the script of a list has these lines.
@@ -198,42 +223,43 @@ pub every-list-is-a-script : {calls : List Call} {answers : List ℕ} → All Sp
 every-list-is-a-script = script-alike
 
 -- And every list of demand 3, with these buffers and what it returned, is a conversation with its script.
-pub every-list-converses : {trace : List (Call × Outcome)} → All Spelled (callsOf trace) → Session freshMachine trace → Conversation (scriptOf (callsOf trace)) (answersOf trace)
+pub every-list-converses : {trace : List (Call × Outcome)} → All Spelled (callsOf trace) → Session (freshMachine sixTable) trace → Conversation (scriptOf (callsOf trace)) (answersOf trace)
 every-list-converses = list-converses
 
 -- Nothing is lost by the calls that no script can hold, as they are refused and leave the machine as it was: a line with a line feed has no form
 -- (1), a redeclare with a number above 4294967295 is refused with 5 or 12, an infer with a short buffer with 11.
-pub left-out-refused : (before rest : List (Call × Outcome)) (call : Call) (o : Outcome) → Session freshMachine (before ++ ((call, o) ∷ rest)) → ¬ Spelled call →
-    (contains (o .number) (unspelledNumbers call) ≡ true) × (standing freshMachine (before ++ ((call, o) ∷ [])) ≡ standing freshMachine before)
+pub left-out-refused : {T : SchemeTable} → Sound T → (before rest : List (Call × Outcome)) (call : Call) (o : Outcome) → Session (freshMachine T) (before ++ ((call, o) ∷ rest)) → ¬ Spelled call →
+    (contains (o .number) (unspelledNumbers call) ≡ true) × (standing (freshMachine T) (before ++ ((call, o) ∷ [])) ≡ standing (freshMachine T) before)
 left-out-refused = unspelled-refused
 
 -- Document 02, c). "The reader of words takes qualifier, kind and operation words in either case, also mixed": a field is the word of a code exactly
 -- where its capitals are the word that a report has for the code.
-pub words-in-either-case : (s : List ℕ) (c : ℕ) → (wordOf s ≡ Value c → capitals s ≡ qualifierWord c) × (c < 7 → capitals s ≡ qualifierWord c → wordOf s ≡ Value c)
+pub words-in-either-case : (s : List ℕ) (c : ℕ) →
+    (wordOf (sixTable .names) s ≡ Value c → capitals s ≡ qualifierWord (sixTable .names) c) × (c < 7 → capitals s ≡ qualifierWord (sixTable .names) c → wordOf (sixTable .names) s ≡ Value c)
 words-in-either-case = word-exactly
 
 -- "Every line form rests on this reader": lines that differ in the case of words alone enter the same, or both have none of the forms.
-pub lines-in-either-case : {s t : List ℕ} → SameButCase s t → lineOf s ≡ lineOf t
+pub lines-in-either-case : (names : List (List ℕ)) {s t : List ℕ} → SameButCase s t → lineOf names s ≡ lineOf names t
 lines-in-either-case = lines-alike
 
 -- So two lists of calls that differ in nothing else have the same numbers, rows, lengths and bytes, and so have two texts.
-pub lists-in-either-case : {m : Machine} {trace trace′ : List (Call × Outcome)} →
+pub lists-in-either-case : {m : Machine} {trace trace′ : List (Call × Outcome)} → Sound (m .schemes) →
     InTurn SameCallButCase (callsOf trace) (callsOf trace′) → Session m trace → Session m trace′ → outcomesOf trace ≡ outcomesOf trace′
-lists-in-either-case = session-alike _ _
+lists-in-either-case sound = session-alike sound _ _
 
-pub printed-in-either-case : {text text′ out : List ℕ} → InTurn SameButCase (linesOf text) (linesOf text′) → Prints text out → Prints text′ out
+pub printed-in-either-case : {T : SchemeTable} {text text′ out : List ℕ} → InTurn SameButCase (linesOf text) (linesOf text′) → Prints T text out → Prints T text′ out
 printed-in-either-case alike = prints-alike alike
 
-pub returned-in-either-case : {text text′ buffer b : List ℕ} {n : ℕ} → InTurn SameButCase (linesOf text) (linesOf text′) → Returns text buffer n b → Returns text′ buffer n b
+pub returned-in-either-case : {T : SchemeTable} {text text′ buffer b : List ℕ} {n : ℕ} → InTurn SameButCase (linesOf text) (linesOf text′) → Returns T text buffer n b → Returns T text′ buffer n b
 returned-in-either-case alike = returns-alike alike
 
 -- "The tags T, P, E and the `g` of a variable stay fixed."
-pub tags-fixed : (s : List ℕ) → ¬ (field s 0 ≡ bytes "T") → ¬ (field s 0 ≡ bytes "P") → ¬ (field s 0 ≡ bytes "E") → lineOf s ≡ NoForm
+pub tags-fixed : (names : List (List ℕ)) (s : List ℕ) → ¬ (field s 0 ≡ bytes "T") → ¬ (field s 0 ≡ bytes "P") → ¬ (field s 0 ≡ bytes "E") → lineOf names s ≡ NoForm
 tags-fixed = other-tag
 
-pub variable-letter-fixed : (s : List ℕ) (c : ℕ) → qualifierOf s ≡ Value c → 7 ≤ c → getD s 0 0 ≡ 103
+pub variable-letter-fixed : (names : List (List ℕ)) (s : List ℕ) (c : ℕ) → qualifierOf names s ≡ Value c → length (qualifierWords names) ≤ c → getD s 0 0 ≡ 103
 variable-letter-fixed = variable-letter
 
 -- "Reports are written in capitals as before."
-pub reports-in-capitals : {m : Machine} {buffer : List ℕ} {o : Outcome} → Infers m buffer o → o .number ≡ 0 → capitals (reportIn o) ≡ reportIn o
+pub reports-in-capitals : {m : Machine} {buffer : List ℕ} {o : Outcome} → Sound (m .schemes) → Infers m buffer o → o .number ≡ 0 → capitals (reportIn o) ≡ reportIn o
 reports-in-capitals = reported-capitals

@@ -6,9 +6,10 @@ use mathlib.Core.List.{List, [], _∷_, map}
 use mathlib.Core.Path.{_≡_, refl, sym, ap, ap₂, subst, _∙_}
 use lib.Dec.{eqb, leb}
 use lib.ListN.{length, length-map, getD}
+use Rattle.scheme.specs.Schemes.{SchemeTable, Sound}
 use Rattle.model.specs.Lists.{same, bytes}
 use Rattle.model.specs.Number.{numberOf}
-use Rattle.model.specs.Word.{capitals, spells, orElse, wordOf, qualifierOf, schemeOf, operationOf}
+use Rattle.model.specs.Word.{qualifierWords, capitals, spells, orElse, wordOf, qualifierOf, schemeOf, operationOf}
 use Rattle.model.specs.Line.{fields, field, floor, choose, exactly, intLine, anyLine, arrowLine, paramLine, lamLine, appLine, opLine, varLine, numLine, encLine, typeLine, leafLine, termLine, lineOf}
 use Rattle.model.specs.Machine.{Machine, Change, freshMachine, entered, added}
 use Rattle.model.specs.Session.{Call, add, Outcome, returning, Answers, adds, Session, done}
@@ -16,15 +17,16 @@ use Rattle.model.specs.Text.{linesOf, Load, stopped, loadFrom, Prints, Returns}
 use Rattle.model.specs.declared.Field.the-variants.{Value}
 use Rattle.model.specs.declared.Line.the-variants.{NoForm}
 use Rattle.model.proofs.Lists.{same-other}
+use Rattle.model.proofs.Keeps.{answers-keep}
 use Rattle.model.proofs.Answers.{answers-same}
 use Rattle.model.proofs.Capitals.{capitals-length, fields-capitals, field-capitals, read-alike, spells-capitals, word-capitals, scheme-capitals, operation-capitals, number-capitals}
-use Rattle.line.proofs.Bounds.{word-at-most, variable-cases, qualifier-cases}
+use Rattle.line.proofs.Bounds.{word-below, variable-cases, qualifier-cases}
 use Rattle.text.proofs.Front.{prints-loaded, returns-loaded}
 use Rattle.demands.specs.Traces.{callsOf, outcomesOf}
 use Rattle.demands.specs.InTurn.{InTurn, none, next}
 use Rattle.demands.specs.EitherCase.{SameButCase, SameCallButCase, same-call, both-add}
 
-module _ {s t : List ℕ} (alike : SameButCase s t) where
+module _ (names : List (List ℕ)) {s t : List ℕ} (alike : SameButCase s t) where
   parts : map capitals (fields s) ≡ map capitals (fields t)
   parts = sym (fields-capitals s) ∙ ap fields (alike .same-capitals) ∙ fields-capitals t
 
@@ -41,15 +43,15 @@ module _ {s t : List ℕ} (alike : SameButCase s t) where
   numbers : (most k : ℕ) → numberOf most (field s k) ≡ numberOf most (field t k)
   numbers most k = read-alike (numberOf most) (number-capitals most) (letters k)
 
-  words : (k : ℕ) → wordOf (field s k) ≡ wordOf (field t k)
-  words k = read-alike wordOf word-capitals (letters k)
+  words : (k : ℕ) → wordOf names (field s k) ≡ wordOf names (field t k)
+  words k = read-alike (wordOf names) (word-capitals names) (letters k)
 
-  qualifiers : (k : ℕ) → qualifierOf (field s k) ≡ qualifierOf (field t k)
+  qualifiers : (k : ℕ) → qualifierOf names (field s k) ≡ qualifierOf names (field t k)
   unfolding qualifierOf
-  qualifiers k = ap₂ orElse (words k) (alike .same-variables k)
+  qualifiers k = ap₂ orElse (words k) (alike .same-variables (length (qualifierWords names)) k)
 
-  schemes : (k : ℕ) → schemeOf (field s k) ≡ schemeOf (field t k)
-  schemes k = read-alike schemeOf scheme-capitals (letters k)
+  schemes : (k : ℕ) → schemeOf names (field s k) ≡ schemeOf names (field t k)
+  schemes k = read-alike (schemeOf names) (scheme-capitals names) (letters k)
 
   operations : (k : ℕ) → operationOf (field s k) ≡ operationOf (field t k)
   operations k = read-alike operationOf operation-capitals (letters k)
@@ -57,30 +59,30 @@ module _ {s t : List ℕ} (alike : SameButCase s t) where
   kinds : (k : ℕ) (word : List ℕ) → spells (field s k) word ≡ spells (field t k) word
   kinds k word = read-alike (λ f. spells f word) (λ f. spells-capitals f word) (letters k)
 
-  floors : floor s ≡ floor t
+  floors : floor names s ≡ floor names t
   unfolding floor
   floors = simp (count, words 4)
 
-  pub lines-alike : lineOf s ≡ lineOf t
+  pub lines-alike : lineOf names s ≡ lineOf names t
   unfolding lineOf typeLine leafLine termLine intLine anyLine arrowLine paramLine lamLine appLine opLine varLine numLine encLine exactly
   lines-alike = simp (long, alike .same-tag, kinds, count, numbers, qualifiers, floors, schemes, operations)
 
 -- So they are added alike.
 added-alike : (m : Machine) {s t : List ℕ} → SameButCase s t → added m s ≡ added m t
 unfolding added
-added-alike m alike = ap (entered m) (lines-alike alike)
+added-alike m alike = ap (entered m) (lines-alike (m .schemes .names) alike)
 
 answers-alike : {m after : Machine} {call call′ : Call} {o : Outcome} → SameCallButCase call call′ → Answers m call o after → Answers m call′ o after
 answers-alike same-call a = a
 answers-alike {m} (both-add {t = t} alike) adds =
     subst (λ (change : Change). Answers m (add t) (returning (change .number)) (change .machine)) (sym (added-alike m alike)) adds
 
-pub session-alike : {m : Machine} (trace trace′ : List (Call × Outcome)) →
+pub session-alike : {m : Machine} → Sound (m .schemes) → (trace trace′ : List (Call × Outcome)) →
     InTurn SameCallButCase (callsOf trace) (callsOf trace′) → Session m trace → Session m trace′ → outcomesOf trace ≡ outcomesOf trace′
-session-alike [] [] none done done = refl
-session-alike ((call, o) ∷ rest) ((call′, o′) ∷ rest′) (next alike more) (Session.next a steps) (Session.next a′ steps′) =
-    let same = answers-same (answers-alike alike a) a′ in
-    ap₂ _∷_ (same .0) (session-alike rest rest′ more steps (subst (λ (m : Machine). Session m rest′) (sym (same .1)) steps′))
+session-alike sound [] [] none done done = refl
+session-alike {m} sound ((call, o) ∷ rest) ((call′, o′) ∷ rest′) (next alike more) (Session.next a steps) (Session.next a′ steps′) =
+    let same = answers-same sound (answers-alike alike a) a′ in
+    ap₂ _∷_ (same .0) (session-alike (subst Sound (sym (answers-keep m a)) sound) rest rest′ more steps (subst (λ (m : Machine). Session m rest′) (sym (same .1)) steps′))
 
 -- And loaded alike.
 loads-alike : (m : Machine) (n : ℕ) {lines lines′ : List (List ℕ)} → InTurn SameButCase lines lines′ → loadFrom m n lines ≡ loadFrom m n lines′
@@ -90,25 +92,25 @@ loads-alike m n (next {x = s} {x′ = t} {xs = rest} alike more) =
     ap (λ (change : Change). cond (eqb (change .number) 0) (loadFrom (change .machine) (n + 1) rest) (stopped (change .number) n)) (added-alike m alike)
     ∙ ap (λ (later : Load). cond (eqb (added m t .number) 0) later (stopped (added m t .number) n)) (loads-alike (added m t .machine) (n + 1) more)
 
-module _ {text text′ : List ℕ} (alike : InTurn SameButCase (linesOf text) (linesOf text′)) where
-  pub prints-alike : {out : List ℕ} → Prints text out → Prints text′ out
-  prints-alike = prints-loaded (loads-alike freshMachine 1 alike)
+module _ {T : SchemeTable} {text text′ : List ℕ} (alike : InTurn SameButCase (linesOf text) (linesOf text′)) where
+  pub prints-alike : {out : List ℕ} → Prints T text out → Prints T text′ out
+  prints-alike = prints-loaded (loads-alike (freshMachine T) 1 alike)
 
-  pub returns-alike : {buffer b : List ℕ} {n : ℕ} → Returns text buffer n b → Returns text′ buffer n b
-  returns-alike = returns-loaded (loads-alike freshMachine 1 alike)
+  pub returns-alike : {buffer b : List ℕ} {n : ℕ} → Returns T text buffer n b → Returns T text′ buffer n b
+  returns-alike = returns-loaded (loads-alike (freshMachine T) 1 alike)
 
 -- A tag is the letter itself, and a variable begins with `g` itself.
-pub other-tag : (s : List ℕ) → ¬ (field s 0 ≡ bytes "T") → ¬ (field s 0 ≡ bytes "P") → ¬ (field s 0 ≡ bytes "E") → lineOf s ≡ NoForm
+pub other-tag : (names : List (List ℕ)) (s : List ℕ) → ¬ (field s 0 ≡ bytes "T") → ¬ (field s 0 ≡ bytes "P") → ¬ (field s 0 ≡ bytes "E") → lineOf names s ≡ NoForm
 unfolding lineOf choose
-other-tag s t p e =
+other-tag names s t p e =
     simp (← same-other (field s 0) (bytes "T") t, ← same-other (field s 0) (bytes "P") p, ← same-other (field s 0) (bytes "E") e) (either (leb (length s) 64))
   where
     either : (short : Bool) → cond short NoForm NoForm ≡ NoForm
     either true = refl
     either false = refl
 
-pub variable-letter : (s : List ℕ) (c : ℕ) → qualifierOf s ≡ Value c → 7 ≤ c → getD s 0 0 ≡ 103
-variable-letter s c read above =
-    qualifier-cases s c read
-    (λ word. absurd (omega (arith, word-at-most s c word)))
-    (λ variable. variable-cases s c variable (λ digits k begins number code. ap (λ (s : List ℕ). getD s 0 0) begins))
+pub variable-letter : (names : List (List ℕ)) (s : List ℕ) (c : ℕ) → qualifierOf names s ≡ Value c → length (qualifierWords names) ≤ c → getD s 0 0 ≡ 103
+variable-letter names s c read above =
+    qualifier-cases names s c read
+    (λ word. absurd (omega (arith, word-below names s c word)))
+    (λ variable. variable-cases (length (qualifierWords names)) s c variable (λ digits k begins number code. ap (λ (s : List ℕ). getD s 0 0) begins))

@@ -9,11 +9,9 @@ use lib.ListN.{length}
 use borrow.Author.Tests.{eqb-true, ne-eqb}
 use Rattle.model.specs.Lists.{contains}
 use Rattle.model.specs.Machine.{Machine}
-use Rattle.model.specs.Strength.{six}
-use Rattle.model.specs.Inference.{Slot, Shape, Cause, shapes, qualifiers, bounds, Judged, not-closed, not-typable, below-floor, typed}
+use Rattle.model.specs.Inference.{ruling, Slot, Shape, Cause, shapes, qualifiers, bounds, Judged, not-closed, not-typable, below-floor, typed}
 use Rattle.model.specs.Session.{Call, infer, Outcome, returning, Infers, short, refused, accepted, Answers, adds, redeclares, takes-back, infers}
-use Rattle.model.proofs.Six.{six-lawful}
-use Rattle.model.proofs.Unique.{judged-same}
+use Rattle.model.proofs.Unique.{refusal-same, typed-not-refused}
 use Rattle.inference.proofs.Corollaries.{cause-number, infers-zero}
 use Rattle.demands.specs.Refusals.{Breaks, checks, inFrontOf, lent, RefusedExactly, buffer-short, program-open, no-typing, floors-missed}
 use Rattle.demands.proofs.Members.{not-in-front, rising, in-front-less}
@@ -38,13 +36,13 @@ buffer-kept (short h) some = refl
 buffer-kept (refused h j z) some = refl
 buffer-kept (accepted h j) some = absurd (some refl)
 
-cause-checked : {m : Machine} {k number : ℕ} (buffer : List ℕ) → Cause six m k number → contains number (checks (infer buffer)) ≡ true
+cause-checked : {m : Machine} {k number : ℕ} (buffer : List ℕ) → Cause (ruling m) m k number → contains number (checks (infer buffer)) ≡ true
 cause-checked buffer (shapes none) = refl
 cause-checked buffer (qualifiers some none) = refl
 cause-checked buffer (bounds some) = refl
 
 -- "after 21 to 23": 24 stands in front of none of the three.
-cause-before-floors : {m : Machine} {k number : ℕ} (buffer : List ℕ) → Cause six m k number → ¬ (contains 24 (inFrontOf number (checks (infer buffer))) ≡ true)
+cause-before-floors : {m : Machine} {k number : ℕ} (buffer : List ℕ) → Cause (ruling m) m k number → ¬ (contains 24 (inFrontOf number (checks (infer buffer))) ≡ true)
 cause-before-floors buffer (shapes none) h = false≢true h
 cause-before-floors buffer (qualifiers some none) h = false≢true h
 cause-before-floors buffer (bounds some) h = false≢true h
@@ -105,7 +103,7 @@ module _ {m : Machine} {buffer : List ℕ} where
   infer-refused (accepted h j) some = absurd (some refl)
 
   -- A number's condition is broken: the call is refused, and the number does not stand in front of the one returned.
-  judged-first : {number k n : ℕ} {word : Slot → ℕ} {shape : Slot → Shape} → 6280 ≤ length buffer → Judged six m number k word shape → Breaks m (infer buffer) n →
+  judged-first : {number k n : ℕ} {word : Slot → ℕ} {shape : Slot → Shape} → 6280 ≤ length buffer → Judged (ruling m) m number k word shape → Breaks m (infer buffer) n →
       ¬ (number ≡ 0) × ¬ (contains n (inFrontOf number (checks (infer buffer))) ≡ true)
   judged-first long j (buffer-short h) = absurd (omega arith)
   judged-first long (not-closed never) (program-open never′) = (λ e. omega arith, λ h. false≢true h)
@@ -114,17 +112,13 @@ module _ {m : Machine} {buffer : List ℕ} where
   judged-first long (typed closed a met) (program-open never) = absurd (never closed)
   judged-first long (not-closed never) (no-typing {number = n} refusal) =
       (λ e. omega arith, λ h. omega (arith, eqb-true n 11 (simp or-false at h), cause-number (refusal .cause) .0))
-  judged-first {word = word} {shape} long (not-typable closed refusal) (no-typing {number = n} refusal′) =
-      let same = judged-same six six-lawful m (not-typable {word = word} {shape = shape} closed refusal′) (not-typable {word = word} {shape = shape} closed refusal) .0 in (
+  judged-first long (not-typable closed refusal) (no-typing {number = n} refusal′) =
+      let same = refusal-same (ruling m) m refusal′ refusal .0 in (
         λ e. omega (arith, cause-number (refusal .cause) .0),
         subst (λ (number : ℕ). ¬ (contains n (inFrontOf number (checks (infer buffer))) ≡ true)) same (not-in-front n (checks (infer buffer))),
       )
-  judged-first {word = word} {shape} long (below-floor closed a missed) (no-typing refusal) =
-      let same = judged-same six six-lawful m (not-typable {word = word} {shape = shape} closed refusal) (below-floor closed a missed) .0 in
-      absurd (omega (arith, cause-number (refusal .cause) .1))
-  judged-first {word = word} {shape} long (typed closed a met) (no-typing refusal) =
-      let same = judged-same six six-lawful m (not-typable {word = word} {shape = shape} closed refusal) (typed closed a met) .0 in
-      absurd (omega (arith, cause-number (refusal .cause) .0))
+  judged-first long (below-floor closed a missed) (no-typing refusal) = absurd (typed-not-refused (ruling m) m a refusal)
+  judged-first long (typed closed a met) (no-typing refusal) = absurd (typed-not-refused (ruling m) m a refusal)
   judged-first long (not-closed never) (floors-missed none) = (λ e. omega arith, λ h. false≢true h)
   judged-first long (not-typable closed refusal) (floors-missed none) = (λ e. omega (arith, cause-number (refusal .cause) .0), cause-before-floors buffer (refusal .cause))
   judged-first long (below-floor closed a missed) (floors-missed none) = (λ e. omega arith, λ h. false≢true h)

@@ -35,7 +35,7 @@ module _ (m : Machine) (p : ℕ) (declared : p < length (m .params)) where
       by (no other) = ap (λ (param : Param). param .floor) (getD-set-other (m .params) q p (withQualifier code (paramAt m q)) noParam other)
 
   described-stays : (call : Call) → Stays (described m call)
-  described-stays (add line) = appended-stays (lineOf line)
+  described-stays (add line) = appended-stays (lineOf (m .schemes .names) line)
   described-stays (redeclare q code) = redeclared-stays q code
   described-stays take-back = refl
   described-stays (infer buffer) = refl

@@ -11,7 +11,7 @@ use borrow.Author.Tests.{eqb-true, not-true}
 use Rattle.scheme.proofs.Every.{and-left, and-right}
 use Rattle.model.specs.Lists.{anyOf, allOf, contains, same, bytes}
 use Rattle.model.specs.Number.{numberOf}
-use Rattle.model.specs.Word.{qualifierWords, schemeWords, operationWords, spells, placeIn, wordOf, variableOf, qualifierOf, schemeOf, operationOf}
+use Rattle.model.specs.Word.{qualifierWords, operationWords, spells, placeIn, wordOf, variableOf, qualifierOf, schemeOf, operationOf}
 use Rattle.model.specs.Line.{onto, fields, field, number, literal, qualifier, floor, scheme, operation, given, choose, exactly, tag, kind, intLine, anyLine, arrowLine, paramLine, lamLine, appLine, opLine, varLine, numLine, encLine, typeLine, leafLine, termLine, lineOf}
 use Rattle.model.specs.declared.Field.{Field}
 use Rattle.model.specs.declared.Field.the-variants.{Value, NoValue}
@@ -46,19 +46,8 @@ place-clean c v (word ∷ words) f clean e = by (spells f word) refl (place-clea
     by true h later e = word-clean f word (not-true (contains 10 word) (and-left (not (contains 10 word)) _ clean)) h
     by false h later e = later e
 
-variable-clean : (v : ℕ) (f : List ℕ) → variableOf f ≡ Value v → Clean f
-variable-clean v f e = variable-cases f v e (λ digits k begins number code. ap (contains 10) begins ∙ number-clean 63 k digits number)
-
-qualifier-word-clean : (v : ℕ) (f : List ℕ) → wordOf f ≡ Value v → Clean f
-unfolding wordOf
-qualifier-word-clean v f e = place-clean 0 v qualifierWords f refl e
-
-qualifier-clean : (v : ℕ) (f : List ℕ) → qualifierOf f ≡ Value v → Clean f
-qualifier-clean v f e = qualifier-cases f v e (qualifier-word-clean v f) (variable-clean v f)
-
-scheme-clean : (v : ℕ) (f : List ℕ) → schemeOf f ≡ Value v → Clean f
-unfolding schemeOf
-scheme-clean v f e = place-clean 1 v schemeWords f refl e
+variable-clean : (n v : ℕ) (f : List ℕ) → variableOf n f ≡ Value v → Clean f
+variable-clean n v f e = variable-cases n f v e (λ digits k begins number code. ap (contains 10) begins ∙ number-clean 63 k digits number)
 
 operation-clean : (v : ℕ) (f : List ℕ) → operationOf f ≡ Value v → Clean f
 unfolding operationOf
@@ -106,18 +95,8 @@ module _ (s : List ℕ) where
     literal-none : given (literal s k) rest ≡ NoForm
     literal-none = given-none (literal s k) rest (λ v e. none (number-clean 4294967295 v (field s k) e) v)
 
-    qualifier-none : given (qualifier s k) rest ≡ NoForm
-    qualifier-none = given-none (qualifier s k) rest (λ v e. none (qualifier-clean v (field s k) e) v)
-
-    scheme-none : given (scheme s k) rest ≡ NoForm
-    scheme-none = given-none (scheme s k) rest (λ v e. none (scheme-clean v (field s k) e) v)
-
     operation-none : given (operation s k) rest ≡ NoForm
     operation-none = given-none (operation s k) rest (λ v e. none (operation-clean v (field s k) e) v)
-
-  -- The floor is left out, or stands in field 4.
-  floor-none : {rest : ℕ → Line} → (length (fields s) ≡ 4 → (v : ℕ) → rest v ≡ NoForm) → (length (fields s) ≡ 5 → Clean (field s 4) → (v : ℕ) → rest v ≡ NoForm) → given (floor s) rest ≡ NoForm
-  floor-none {rest} four five = given-none (floor s) rest (λ v e. floor-cases s v e (λ n plain. four n v) (λ n word. five n (qualifier-word-clean v (field s 4) word) v))
 
   -- The tag stands in field 0, the kind's word in field 2.
   tag-none : (letter : List ℕ) {line other : Line} → Clean letter → (Clean (field s 0) → line ≡ NoForm) → other ≡ NoForm → choose (tag s letter) line other ≡ NoForm
@@ -140,74 +119,99 @@ clean-at {s} (_then_ {k = n} front last) k h = by (decLt k n) (clean-at front k)
     by (yes below) earlier = earlier below
     by (no past) earlier = let is-last : n ≡ k = omega arith in subst (λ (k : ℕ). Clean (field s k)) is-last last
 
-module _ (s : List ℕ) (feed : contains 10 s ≡ true) where
-  -- The line feed stands in a field that is read.
-  all-read : {n : ℕ} {line : Line} → length (fields s) ≡ n → CleanTo s n → line ≡ NoForm
-  all-read e clean = absurd (false≢true (sym (all-clean (fields s) (λ k h. clean-at clean k (omega arith))) ∙ feed-in-field s ∙ feed))
+-- Qualifiers and schemes are read by the names of a scheme table, none of which holds a line feed.
+module _ (names : List (List ℕ)) (clean : allOf (λ name. not (contains 10 name)) names ≡ true) where
+  qualifier-word-clean : (v : ℕ) (f : List ℕ) → wordOf names f ≡ Value v → Clean f
+  unfolding wordOf
+  qualifier-word-clean v f e = place-clean 0 v (qualifierWords names) f clean e
 
-  module _ (c₀ : Clean (field s 0)) where
-    param-none : paramLine s ≡ NoForm
-    unfolding paramLine
-    param-none =
-        number-none s 1 λ c₁ p. qualifier-none s 2 λ c₂ q. number-none s 3 λ c₃ t.
-        floor-none s (λ n f. all-read n (start then c₀ then c₁ then c₂ then c₃)) (λ n c₄ f. all-read n (start then c₀ then c₁ then c₂ then c₃ then c₄))
+  qualifier-clean : (v : ℕ) (f : List ℕ) → qualifierOf names f ≡ Value v → Clean f
+  qualifier-clean v f e = qualifier-cases names f v e (qualifier-word-clean v f) (variable-clean (suc (length names)) v f)
 
-    module _ (c₂ : Clean (field s 2)) where
-      int-none : intLine s ≡ NoForm
-      unfolding intLine
-      int-none = exactly-none s 3 λ n. number-none s 1 λ c₁ i. all-read n (start then c₀ then c₁ then c₂)
+  scheme-clean : (v : ℕ) (f : List ℕ) → schemeOf names f ≡ Value v → Clean f
+  unfolding schemeOf
+  scheme-clean v f e = place-clean 1 v names f clean e
 
-      any-none : anyLine s ≡ NoForm
-      unfolding anyLine
-      any-none = exactly-none s 3 λ n. number-none s 1 λ c₁ i. all-read n (start then c₀ then c₁ then c₂)
+  module _ (s : List ℕ) where
+    module _ (k : ℕ) {rest : ℕ → Line} (none : Clean (field s k) → (v : ℕ) → rest v ≡ NoForm) where
+      qualifier-none : given (qualifier names s k) rest ≡ NoForm
+      qualifier-none = given-none (qualifier names s k) rest (λ v e. none (qualifier-clean v (field s k) e) v)
 
-      arrow-none : arrowLine s ≡ NoForm
-      unfolding arrowLine
-      arrow-none =
-          exactly-none s 7 λ n. number-none s 1 λ c₁ i. qualifier-none s 3 λ c₃ q. number-none s 4 λ c₄ t. qualifier-none s 5 λ c₅ q′. number-none s 6 λ c₆ t′.
-          all-read n (start then c₀ then c₁ then c₂ then c₃ then c₄ then c₅ then c₆)
+      scheme-none : given (scheme names s k) rest ≡ NoForm
+      scheme-none = given-none (scheme names s k) rest (λ v e. none (scheme-clean v (field s k) e) v)
 
-      lam-none : lamLine s ≡ NoForm
-      unfolding lamLine
-      lam-none = exactly-none s 5 λ n. number-none s 1 λ c₁ i. number-none s 3 λ c₃ p. number-none s 4 λ c₄ b. all-read n (start then c₀ then c₁ then c₂ then c₃ then c₄)
+    -- The floor is left out, or stands in field 4.
+    floor-none : {rest : ℕ → Line} → (length (fields s) ≡ 4 → (v : ℕ) → rest v ≡ NoForm) → (length (fields s) ≡ 5 → Clean (field s 4) → (v : ℕ) → rest v ≡ NoForm) → given (floor names s) rest ≡ NoForm
+    floor-none {rest} four five = given-none (floor names s) rest (λ v e. floor-cases names s v e (λ n plain. four n v) (λ n word. five n (qualifier-word-clean v (field s 4) word) v))
 
-      app-none : appLine s ≡ NoForm
-      unfolding appLine
-      app-none = exactly-none s 5 λ n. number-none s 1 λ c₁ i. number-none s 3 λ c₃ f. number-none s 4 λ c₄ a. all-read n (start then c₀ then c₁ then c₂ then c₃ then c₄)
+  module _ (s : List ℕ) (feed : contains 10 s ≡ true) where
+    -- The line feed stands in a field that is read.
+    all-read : {n : ℕ} {line : Line} → length (fields s) ≡ n → CleanTo s n → line ≡ NoForm
+    all-read e clean = absurd (false≢true (sym (all-clean (fields s) (λ k h. clean-at clean k (omega arith))) ∙ feed-in-field s ∙ feed))
 
-      op-none : opLine s ≡ NoForm
-      unfolding opLine
-      op-none =
-          exactly-none s 6 λ n. number-none s 1 λ c₁ i. operation-none s 3 λ c₃ o. number-none s 4 λ c₄ l. number-none s 5 λ c₅ r.
-          all-read n (start then c₀ then c₁ then c₂ then c₃ then c₄ then c₅)
+    module _ (c₀ : Clean (field s 0)) where
+      param-none : paramLine names s ≡ NoForm
+      unfolding paramLine
+      param-none =
+          number-none s 1 λ c₁ p. qualifier-none s 2 λ c₂ q. number-none s 3 λ c₃ t.
+          floor-none s (λ n f. all-read n (start then c₀ then c₁ then c₂ then c₃)) (λ n c₄ f. all-read n (start then c₀ then c₁ then c₂ then c₃ then c₄))
 
-      var-none : varLine s ≡ NoForm
-      unfolding varLine
-      var-none = exactly-none s 4 λ n. number-none s 1 λ c₁ i. number-none s 3 λ c₃ p. all-read n (start then c₀ then c₁ then c₂ then c₃)
+      module _ (c₂ : Clean (field s 2)) where
+        int-none : intLine s ≡ NoForm
+        unfolding intLine
+        int-none = exactly-none s 3 λ n. number-none s 1 λ c₁ i. all-read n (start then c₀ then c₁ then c₂)
 
-      num-none : numLine s ≡ NoForm
-      unfolding numLine
-      num-none = exactly-none s 4 λ n. number-none s 1 λ c₁ i. literal-none s 3 λ c₃ v. all-read n (start then c₀ then c₁ then c₂ then c₃)
+        any-none : anyLine s ≡ NoForm
+        unfolding anyLine
+        any-none = exactly-none s 3 λ n. number-none s 1 λ c₁ i. all-read n (start then c₀ then c₁ then c₂)
 
-      enc-none : encLine s ≡ NoForm
-      unfolding encLine
-      enc-none = exactly-none s 5 λ n. number-none s 1 λ c₁ i. scheme-none s 3 λ c₃ e. literal-none s 4 λ c₄ v. all-read n (start then c₀ then c₁ then c₂ then c₃ then c₄)
+        arrow-none : arrowLine names s ≡ NoForm
+        unfolding arrowLine
+        arrow-none =
+            exactly-none s 7 λ n. number-none s 1 λ c₁ i. qualifier-none s 3 λ c₃ q. number-none s 4 λ c₄ t. qualifier-none s 5 λ c₅ q′. number-none s 6 λ c₆ t′.
+            all-read n (start then c₀ then c₁ then c₂ then c₃ then c₄ then c₅ then c₆)
 
-    type-none : typeLine s ≡ NoForm
-    unfolding typeLine
-    type-none = kind-none s (bytes "INT") refl int-none (kind-none s (bytes "ANY") refl any-none (kind-none s (bytes "ARROW") refl arrow-none refl))
+        lam-none : lamLine s ≡ NoForm
+        unfolding lamLine
+        lam-none = exactly-none s 5 λ n. number-none s 1 λ c₁ i. number-none s 3 λ c₃ p. number-none s 4 λ c₄ b. all-read n (start then c₀ then c₁ then c₂ then c₃ then c₄)
 
-    leaf-none : leafLine s ≡ NoForm
-    unfolding leafLine
-    leaf-none = kind-none s (bytes "VAR") refl var-none (kind-none s (bytes "NUM") refl num-none (kind-none s (bytes "ENC") refl enc-none refl))
+        app-none : appLine s ≡ NoForm
+        unfolding appLine
+        app-none = exactly-none s 5 λ n. number-none s 1 λ c₁ i. number-none s 3 λ c₃ f. number-none s 4 λ c₄ a. all-read n (start then c₀ then c₁ then c₂ then c₃ then c₄)
 
-    term-none : termLine s ≡ NoForm
-    unfolding termLine
-    term-none = kind-none s (bytes "LAM") refl lam-none (kind-none s (bytes "APP") refl app-none (kind-none s (bytes "OP") refl op-none leaf-none))
+        op-none : opLine s ≡ NoForm
+        unfolding opLine
+        op-none =
+            exactly-none s 6 λ n. number-none s 1 λ c₁ i. operation-none s 3 λ c₃ o. number-none s 4 λ c₄ l. number-none s 5 λ c₅ r.
+            all-read n (start then c₀ then c₁ then c₂ then c₃ then c₄ then c₅)
 
-  pub feed-no-form : lineOf s ≡ NoForm
-  unfolding lineOf
-  feed-no-form =
-      choose-none (leb (length s) 64)
-      (λ short. tag-none s (bytes "T") refl type-none (tag-none s (bytes "P") refl param-none (tag-none s (bytes "E") refl term-none refl)))
-      refl
+        var-none : varLine s ≡ NoForm
+        unfolding varLine
+        var-none = exactly-none s 4 λ n. number-none s 1 λ c₁ i. number-none s 3 λ c₃ p. all-read n (start then c₀ then c₁ then c₂ then c₃)
+
+        num-none : numLine s ≡ NoForm
+        unfolding numLine
+        num-none = exactly-none s 4 λ n. number-none s 1 λ c₁ i. literal-none s 3 λ c₃ v. all-read n (start then c₀ then c₁ then c₂ then c₃)
+
+        enc-none : encLine names s ≡ NoForm
+        unfolding encLine
+        enc-none = exactly-none s 5 λ n. number-none s 1 λ c₁ i. scheme-none s 3 λ c₃ e. literal-none s 4 λ c₄ v. all-read n (start then c₀ then c₁ then c₂ then c₃ then c₄)
+
+      type-none : typeLine names s ≡ NoForm
+      unfolding typeLine
+      type-none = kind-none s (bytes "INT") refl int-none (kind-none s (bytes "ANY") refl any-none (kind-none s (bytes "ARROW") refl arrow-none refl))
+
+      leaf-none : leafLine names s ≡ NoForm
+      unfolding leafLine
+      leaf-none = kind-none s (bytes "VAR") refl var-none (kind-none s (bytes "NUM") refl num-none (kind-none s (bytes "ENC") refl enc-none refl))
+
+      term-none : termLine names s ≡ NoForm
+      unfolding termLine
+      term-none = kind-none s (bytes "LAM") refl lam-none (kind-none s (bytes "APP") refl app-none (kind-none s (bytes "OP") refl op-none leaf-none))
+
+    pub feed-no-form : lineOf names s ≡ NoForm
+    unfolding lineOf
+    feed-no-form =
+        choose-none (leb (length s) 64)
+        (λ short. tag-none s (bytes "T") refl type-none (tag-none s (bytes "P") refl param-none (tag-none s (bytes "E") refl term-none refl)))
+        refl

@@ -7,6 +7,7 @@ use mathlib.Core.Path.{_≡_, refl, subst}
 use lib.Dec.{eqb}
 use lib.ListN.{length, getD}
 use Rattle.model.specs.Machine.{Machine, freshMachine, added}
+use Rattle.scheme.specs.Schemes.{SchemeTable, Sound}
 use Rattle.model.specs.Report.{line}
 use Rattle.model.specs.Session.{Call, add, Outcome, reporting, Infers, accepted, Answers, adds, Session, next}
 use Rattle.model.specs.Text.{linesOf, loaded, stopped, loadFrom, load, Prints, refused-add, refused-inference, reported}
@@ -41,12 +42,12 @@ session-from {m} n (s ∷ lines) ((call, o) ∷ trace) rest calls loads (next {a
     session-from (n + 1) lines trace rest (cc) (load-rest m n s lines loads) (subst (λ (m : Machine). Session m (trace ++ rest)) leaves session)
 
 -- After the adds of a text, the list goes on from the machine that the text loads as.
-pub session-loaded : {m : Machine} (text : List ℕ) (trace rest : List (Call × Outcome)) →
-    callsOf trace ≡ addsOf text → load text ≡ loaded m → Session freshMachine (trace ++ rest) → Session m rest
-session-loaded text = session-from 1 (linesOf text)
+pub session-loaded : {m : Machine} (T : SchemeTable) (text : List ℕ) (trace rest : List (Call × Outcome)) →
+    callsOf trace ≡ addsOf text → load T text ≡ loaded m → Session (freshMachine T) (trace ++ rest) → Session m rest
+session-loaded T text = session-from 1 (linesOf text)
 
 -- A text of which a report is printed: an infer on its machine reports the same.
-printed-infers : {text out : List ℕ} {m : Machine} (buffer : List ℕ) → Prints text out → load text ≡ loaded m → getD out 0 0 ≡ 79 → 6280 ≤ length buffer → Infers m buffer (reporting out buffer)
+printed-infers : {T : SchemeTable} {text out : List ℕ} {m : Machine} (buffer : List ℕ) → Prints T text out → load T text ≡ loaded m → getD out 0 0 ≡ 79 → 6280 ≤ length buffer → Infers m buffer (reporting out buffer)
 unfolding line
 printed-infers buffer (refused-add e) loads first long = let z : _≡_ {A = ℕ} 0 1 = cc in absurd (omega arith)
 printed-infers buffer (refused-inference e j n) loads first long = absurd (omega arith)
@@ -54,6 +55,6 @@ printed-infers {out = out} {m} buffer (reported {m = m′} e j) loads first long
     let same : m′ ≡ m = cc in
     subst (λ (m : Machine). Infers m buffer (reporting out buffer)) same (accepted long j)
 
-pub printed-reported : {text out : List ℕ} {m : Machine} {buffer : List ℕ} {o : Outcome} →
-    Prints text out → load text ≡ loaded m → getD out 0 0 ≡ 79 → 6280 ≤ length buffer → Infers m buffer o → o ≡ reporting out buffer
-printed-reported {buffer = buffer} prints loads first long i = infers-same i (printed-infers buffer prints loads first long)
+pub printed-reported : {T : SchemeTable} {text out : List ℕ} {m : Machine} {buffer : List ℕ} {o : Outcome} → Sound (m .schemes) →
+    Prints T text out → load T text ≡ loaded m → getD out 0 0 ≡ 79 → 6280 ≤ length buffer → Infers m buffer o → o ≡ reporting out buffer
+printed-reported {buffer = buffer} sound prints loads first long i = infers-same sound i (printed-infers buffer prints loads first long)

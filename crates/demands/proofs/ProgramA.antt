@@ -6,9 +6,11 @@ use mathlib.Core.List.{List, [], _∷_, _++_}
 use mathlib.Core.Path.{_≡_, refl, ap, subst, _∙_}
 use lib.ListN.{length, drop, getD}
 use lib.Seq.{take-append-seam}
-use Rattle.scheme.specs.Qualifier.{fhe}
-use Rattle.scheme.specs.Order.{atOrBelow}
-use Rattle.scheme.specs.Operation.{highestOf}
+use lib.Dec.{lit<}
+use Rattle.scheme.specs.Schemes.{below}
+use Rattle.scheme.specs.Six.{sixTable, fhe}
+use Rattle.scheme.proofs.Schemes.{reflexive}
+use Rattle.scheme.proofs.Six.{six-sound}
 use Rattle.model.specs.Number.{decimal}
 use Rattle.model.specs.Word.{qualifierWord}
 use Rattle.model.specs.Machine.{Machine, firstFailing, settled, redeclared}
@@ -21,7 +23,7 @@ use Rattle.model.specs.declared.Term.{Term}
 use Rattle.model.specs.declared.Term.the-variants.{Lam, Op, Var}
 use Rattle.starred.specs.Starred.{textOf, PrintsOutput, program-A}
 use Rattle.starred.proofs.Machines.{oneParameter}
-use Rattle.starred.proofs.Bounds.{plain-below-plain}
+use Rattle.starred.proofs.Bounds.{plain-below-plain, fitting}
 use Rattle.starred.proofs.Printed.{AllWithin, loadOf, reportOf, accepted-prints}
 use Rattle.starred.proofs.Operations.{program-A-prints}
 use Rattle.demands.specs.Replacements.{plainForEverySlot, reportIn, program-A-in-FHE}
@@ -30,25 +32,23 @@ use Rattle.demands.proofs.Loading.{printed-reported}
 abbrev pub terms : List Term
 terms = Var 0 ∷ Var 0 ∷ Op 0 0 1 ∷ Lam 0 2 ∷ []
 
-pub machine-A : load (textOf (program-A .program)) ≡ loaded (oneParameter 7 terms)
+pub machine-A : load sixTable (textOf (program-A .program)) ≡ loaded (oneParameter 7 terms)
 unfolding loadOf
 machine-A = refl
 
-machine-in-FHE : load (textOf (program-A-in-FHE .program)) ≡ loaded (oneParameter 1 terms)
+machine-in-FHE : load sixTable (textOf (program-A-in-FHE .program)) ≡ loaded (oneParameter 1 terms)
 unfolding loadOf
 machine-in-FHE = refl
 
-fhe-below-fhe : atOrBelow 1 1 ≡ true
-unfolding atOrBelow
-fhe-below-fhe = refl
+fhe-below-fhe : below sixTable 1 1 ≡ true
+fhe-below-fhe = reflexive sixTable 1 (lit< tt)
 
 in-FHE-within : AllWithin (oneParameter 1 terms) fhe int int
-unfolding highestOf
 in-FHE-within s e = (cc, cc fhe-below-fhe, cc (fhe-below-fhe, plain-below-plain))
 
 in-FHE-prints : PrintsOutput program-A-in-FHE
-unfolding loadOf reportOf atOrBelow highestOf
-in-FHE-prints = accepted-prints program-A-in-FHE (oneParameter 1 terms) refl refl refl fhe int int (search depth 30) (search depth 30) in-FHE-within refl
+unfolding loadOf reportOf
+in-FHE-prints = accepted-prints program-A-in-FHE (oneParameter 1 terms) refl refl refl fhe int int (search fitting depth 30) (search fitting depth 30) in-FHE-within refl
 
 -- `redeclare 0 1` makes the one of the other.
 redeclared-A : redeclared (oneParameter 7 terms) 0 1 .machine ≡ oneParameter 1 terms
@@ -60,7 +60,7 @@ plain-byte : (shape : Slot → Shape) (rest : List ℕ) → getD (report (onePar
 unfolding report lines line variableLine paramLine rowLine qualifierWord decimal
 plain-byte shape rest = refl
 
-pub plain-differs : {m : Machine} → load (textOf (program-A .program)) ≡ loaded m → (shape : Slot → Shape) (beyond rest : List ℕ) →
+pub plain-differs : {m : Machine} → load sixTable (textOf (program-A .program)) ≡ loaded m → (shape : Slot → Shape) (beyond rest : List ℕ) →
     ¬ (textOf (program-A .output) ++ beyond ≡ report m plainForEverySlot shape ++ rest)
 plain-differs {m} loads shape beyond rest e =
     let same : m ≡ oneParameter 7 terms = cc machine-A in
@@ -82,6 +82,6 @@ pub both-reports : {buffer buffer′ : List ℕ} {first changed second : Outcome
     (reportIn first ≡ textOf (program-A .output)) × (reportIn second ≡ textOf (program-A-in-FHE .output))
 both-reports {buffer} {buffer′} {second = second} long long′ session =
     let (i, i′) = inferred-both session in (
-      report-is buffer (printed-reported program-A-prints machine-A refl long i),
-      report-is buffer′ (printed-reported in-FHE-prints machine-in-FHE refl long′ (subst (λ (m : Machine). Infers m buffer′ second) redeclared-A i′)),
+      report-is buffer (printed-reported six-sound program-A-prints machine-A refl long i),
+      report-is buffer′ (printed-reported six-sound in-FHE-prints machine-in-FHE refl long′ (subst (λ (m : Machine). Infers m buffer′ second) redeclared-A i′)),
     )

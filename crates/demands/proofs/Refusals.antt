@@ -1,13 +1,13 @@
 -- The checks of the machine are the conditions of document 01's table: a call that is refused breaks its number's condition, and none that is checked before.
-use Prim.Native.Nat.{ℕ, _≤_, _<_}
+use Prim.Native.Nat.{ℕ, _+_, _≤_, _<_}
 use native.Mathlib.Omega.{arith}
 use mathlib.Core.Bool.{Bool, true, not, or-false, and-false, false≢true}
 use mathlib.Core.List.{List, [], _∷_}
 use mathlib.Core.Path.{_≡_, refl, sym, ap, _∙_}
 use lib.ListN.{length}
-use borrow.Author.Tests.{eqb-true, eqb-false, eq-eqb, ne-eqb, ltb-false, le-ltb, leb-false, lt-leb, not-false}
+use borrow.Author.Tests.{eqb-true, eqb-false, eq-eqb, ne-eqb, ltb-false, le-ltb, not-false}
+use Rattle.scheme.specs.Schemes.{words}
 use Rattle.model.specs.Lists.{anyOf}
-use Rattle.model.specs.Line.{lineOf}
 use Rattle.model.specs.Machine.{Machine, children, named, parts, binds, used, bound, twice, typeRefusal, paramRefusal, termRefusal, settled, entered, added, redeclared, takenBack}
 use Rattle.model.specs.Session.{add, redeclare, take-back}
 use Rattle.model.specs.declared.TypeForm.{TypeForm}
@@ -17,25 +17,25 @@ use Rattle.model.specs.declared.Term.the-variants.{Lam, App, Op, Var, Num, Enc}
 use Rattle.model.specs.declared.Line.{Line}
 use Rattle.model.specs.declared.Line.the-variants.{TypeLine, ParamLine, TermLine, NoForm}
 use Rattle.model.proofs.LongLines.{long-refused}
-use Rattle.demands.specs.Refusals.{Breaks, line-too-long, no-form, type-not-next, param-not-next, term-not-next, types-full, params-full, terms-full, part-not-below, type-not-declared, named-not-declared, param-not-declared, child-not-below, child-used, both-children, already-bound, no-term-row, code-above}
+use Rattle.demands.specs.Refusals.{readBy, Breaks, line-too-long, no-form, type-not-next, param-not-next, term-not-next, types-full, params-full, terms-full, part-not-below, type-not-declared, named-not-declared, param-not-declared, child-not-below, child-used, both-children, already-bound, no-term-row, code-above}
 use Rattle.demands.proofs.Checks.{from-none, from-check, here, there, not-later}
 use Rattle.demands.proofs.Members.{and-cases, some-passes, one-passes, some-not-below, one-not-below}
 
 -- The number that an add returns, by the form of its line.
 module _ (m : Machine) (s : List ℕ) where
-  added-type : {i : ℕ} {form : TypeForm} → lineOf s ≡ TypeLine i form → added m s .number ≡ typeRefusal m i form
+  added-type : {i : ℕ} {form : TypeForm} → readBy m s ≡ TypeLine i form → added m s .number ≡ typeRefusal m i form
   unfolding added entered settled
   added-type e = rw e
 
-  added-param : {p : ℕ} {param : Param} → lineOf s ≡ ParamLine p param → added m s .number ≡ paramRefusal m p param
+  added-param : {p : ℕ} {param : Param} → readBy m s ≡ ParamLine p param → added m s .number ≡ paramRefusal m p param
   unfolding added entered settled
   added-param e = rw e
 
-  added-term : {i : ℕ} {term : Term} → lineOf s ≡ TermLine i term → added m s .number ≡ termRefusal m i term
+  added-term : {i : ℕ} {term : Term} → readBy m s ≡ TermLine i term → added m s .number ≡ termRefusal m i term
   unfolding added entered settled
   added-term e = rw e
 
-  pub added-none : lineOf s ≡ NoForm → added m s .number ≡ 1
+  pub added-none : readBy m s ≡ NoForm → added m s .number ≡ 1
   unfolding added entered settled
   added-none e = rw e
 
@@ -69,7 +69,7 @@ module _ (m : Machine) (s : List ℕ) where
   abbrev Broken : ℕ → Type 0
   Broken = Breaks m (add s)
 
-  type-refused : {i : ℕ} {form : TypeForm} → lineOf s ≡ TypeLine i form → ¬ (typeRefusal m i form ≡ 0) → Broken (typeRefusal m i form)
+  type-refused : {i : ℕ} {form : TypeForm} → readBy m s ≡ TypeLine i form → ¬ (typeRefusal m i form ≡ 0) → Broken (typeRefusal m i form)
   unfolding typeRefusal
   type-refused {i} {form} line =
       from-check Broken 2 _ _ (λ e. type-not-next line (eqb-false _ _ e))
@@ -77,7 +77,7 @@ module _ (m : Machine) (s : List ℕ) where
       (from-check Broken 4 _ _ (λ e. let (t, among, past) = some-not-below i (parts form) e in part-not-below line t among past)
       (from-none Broken)))
 
-  param-refused : {p : ℕ} {param : Param} → lineOf s ≡ ParamLine p param → ¬ (paramRefusal m p param ≡ 0) → Broken (paramRefusal m p param)
+  param-refused : {p : ℕ} {param : Param} → readBy m s ≡ ParamLine p param → ¬ (paramRefusal m p param ≡ 0) → Broken (paramRefusal m p param)
   unfolding paramRefusal
   param-refused {p} {param} line =
       from-check Broken 2 _ _ (λ e. param-not-next line (eqb-false _ _ e))
@@ -85,7 +85,7 @@ module _ (m : Machine) (s : List ℕ) where
       (from-check Broken 4 _ _ (λ e. type-not-declared line (λ below. let past = ltb-false (param .typerow) _ e in omega arith))
       (from-none Broken)))
 
-  term-refused : {i : ℕ} {term : Term} → lineOf s ≡ TermLine i term → ¬ (termRefusal m i term ≡ 0) → Broken (termRefusal m i term)
+  term-refused : {i : ℕ} {term : Term} → readBy m s ≡ TermLine i term → ¬ (termRefusal m i term ≡ 0) → Broken (termRefusal m i term)
   unfolding termRefusal
   term-refused {i} {term} line =
       from-check Broken 2 _ _ (λ e. term-not-next line (eqb-false _ _ e))
@@ -102,9 +102,9 @@ module _ (m : Machine) (s : List ℕ) where
       (from-none Broken))))))
 
   pub add-refused : ¬ (added m s .number ≡ 0) → Broken (added m s .number)
-  add-refused = by (lineOf s) refl
+  add-refused = by (readBy m s) refl
     where
-      by : (line : Line) → lineOf s ≡ line → ¬ (added m s .number ≡ 0) → Broken (added m s .number)
+      by : (line : Line) → readBy m s ≡ line → ¬ (added m s .number ≡ 0) → Broken (added m s .number)
       by (TypeLine i form) e some = rw (added-type m s e) (type-refused e (rw (added-type m s e) at some))
       by (ParamLine p param) e some = rw (added-param m s e) (param-refused e (rw (added-param m s e) at some))
       by (TermLine i term) e some = rw (added-term m s e) (term-refused e (rw (added-term m s e) at some))
@@ -138,13 +138,13 @@ module _ (m : Machine) (p code : ℕ) where
   unfolding redeclared settled
   redeclare-refused =
       from-check (Breaks m (redeclare p code)) 5 _ _ (λ e. param-not-declared (λ below. let past = ltb-false p (length (m .params)) e in omega arith))
-      (from-check (Breaks m (redeclare p code)) 12 _ _ (λ e. code-above (leb-false _ _ e))
+      (from-check (Breaks m (redeclare p code)) 12 _ _ (λ e. code-above (ltb-false code (words (m .schemes) + 64) e))
       (from-none (Breaks m (redeclare p code))))
 
   pub redeclare-first : {n : ℕ} → Breaks m (redeclare p code) n → First (redeclared m p code .number) n
   unfolding redeclared settled
   redeclare-first (param-not-declared h) = not-later refl (here (le-ltb p (length (m .params)) (omega arith)))
-  redeclare-first (code-above h) = not-later refl (there (here (lt-leb code 70 h)))
+  redeclare-first (code-above h) = not-later refl (there (here (le-ltb code (words (m .schemes) + 64) h)))
 
 no-rows : {A : Type 0} (rows : List A) → length rows ≤ 0 → rows ≡ []
 no-rows [] h = refl

@@ -7,11 +7,14 @@ use mathlib.Core.Path.{_≡_, refl, sym, ap, _∙_}
 use lib.ListN.{length, getD}
 use Rattle.model.specs.Lists.{bytes}
 use Rattle.model.specs.Number.{decimal}
+use Rattle.scheme.specs.Six.{sixTable}
+use Rattle.scheme.proofs.Six.{six-sound}
+use Rattle.text.proofs.Same.{loaded-sound}
 use Rattle.model.specs.Machine.{Machine, freshMachine}
 use Rattle.model.specs.Closed.{Closed}
 use Rattle.model.specs.Typing.{Typable}
-use Rattle.model.specs.Strength.{whole, six}
-use Rattle.model.specs.Inference.{Slot, Shape}
+use Rattle.model.specs.Strength.{whole}
+use Rattle.model.specs.Inference.{ruling, Slot, Shape}
 use Rattle.model.specs.Report.{line, report}
 use Rattle.model.specs.Session.{Call, add, redeclare, infer, Outcome, Infers, short, refused, accepted, Answers, adds, Session}
 use Rattle.model.specs.Text.{loaded, load}
@@ -26,23 +29,23 @@ use Rattle.demands.proofs.Loading.{session-loaded, printed-reported}
 use Rattle.demands.proofs.ProgramA.{machine-A, plain-differs, both-reports}
 
 -- "PLAIN for every slot: demand 3 excludes it, though it is often a typing." On program A, whatever the shapes and the bytes beyond.
-pub plain-for-every-slot-excluded : {m : Machine} {buffer : List ℕ} {o : Outcome} → load (textOf (program-A .program)) ≡ loaded m → 6280 ≤ length buffer → Infers m buffer o →
+pub plain-for-every-slot-excluded : {m : Machine} {buffer : List ℕ} {o : Outcome} → load sixTable (textOf (program-A .program)) ≡ loaded m → 6280 ≤ length buffer → Infers m buffer o →
     (o .number ≡ 0) × ((shape : Slot → Shape) (rest : List ℕ) → ¬ (o .buffer ≡ report m plainForEverySlot shape ++ rest))
 plain-for-every-slot-excluded loads long i =
-    let is = printed-reported program-A-prints loads refl long i in
+    let is = printed-reported (loaded-sound sixTable six-sound (textOf (program-A .program)) loads) program-A-prints loads refl long i in
     (ap (λ (o : Outcome). o .number) is, λ shape rest e. plain-differs loads shape _ rest (sym (ap (λ (o : Outcome). o .buffer) is) ∙ e))
 
 -- "The first report repeated: demand 3, over the list." The adds of program A, infer, parameter 0 redeclared FHE, infer: the reports differ.
 pub first-report-repeated-excluded : (adding : List (Call × Outcome)) (buffer buffer′ : List ℕ) (first changed second : Outcome) →
     callsOf adding ≡ addsOf (textOf (program-A .program)) → 6280 ≤ length buffer → 6280 ≤ length buffer′ →
-    Session freshMachine (adding ++ ((infer buffer, first) ∷ (redeclare 0 1, changed) ∷ (infer buffer′, second) ∷ [])) → ¬ (reportIn first ≡ reportIn second)
+    Session (freshMachine sixTable) (adding ++ ((infer buffer, first) ∷ (redeclare 0 1, changed) ∷ (infer buffer′, second) ∷ [])) → ¬ (reportIn first ≡ reportIn second)
 first-report-repeated-excluded adding buffer buffer′ first changed second calls long long′ session e =
-    let both = both-reports long long′ (session-loaded (textOf (program-A .program)) adding _ calls machine-A session) in
+    let both = both-reports long long′ (session-loaded sixTable (textOf (program-A .program)) adding _ calls machine-A session) in
     let byte = ap (λ (bytes : List ℕ). getD bytes 7 0) (sym (both .0) ∙ e ∙ both .1) in
     omega arith
 
 -- "21 for every program: demand 3." A program that has a typing is answered with none of the three.
-pub refused-21-excluded : {m : Machine} {buffer : List ℕ} {o : Outcome} → Infers m buffer o → Typable (whole six) m (length (m .terms)) →
+pub refused-21-excluded : {m : Machine} {buffer : List ℕ} {o : Outcome} → Infers m buffer o → Typable (whole (ruling m)) m (length (m .terms)) →
     ¬ (o .number ≡ 21) × ¬ (o .number ≡ 22) × ¬ (o .number ≡ 23)
 refused-21-excluded i typable = (
   λ e. refused-untypable i (omega arith) (omega arith) .1 typable,

@@ -6,6 +6,7 @@ use mathlib.Core.Path.{_≡_, refl, sym, ap, ap₂, _∙_}
 use lib.ListN.{length, getD, take}
 use lib.Seq.{take-append-seam}
 use Rattle.scheme.proofs.Every.{and-left, and-right}
+use Rattle.scheme.specs.Schemes.{words, Sound}
 use Rattle.model.specs.Lists.{allOf, same, bytes}
 use Rattle.model.specs.Number.{decimal}
 use Rattle.model.specs.Word.{qualifierWords, capital, capitals, qualifierWord}
@@ -15,6 +16,7 @@ use Rattle.model.specs.Report.{joined, line, shapeWord, lines, variableLine, pa
 use Rattle.model.specs.Session.{Outcome, Infers}
 use Rattle.model.proofs.Lists.{same-bytes}
 use Rattle.model.proofs.Capitals.{digits-stay}
+use Rattle.model.proofs.Names.{names-stay}
 use Rattle.inference.proofs.Corollaries.{reported-greatest}
 use Rattle.starred.specs.Starred.{All, []ᴬ, _∷ᴬ_}
 use Rattle.demands.specs.Replacements.{reportIn}
@@ -58,9 +60,9 @@ word-of [] h c = refl
 word-of (w ∷ ws) h zero = same-bytes (capitals w) w (and-left _ (allOf (λ w. same (capitals w) w) ws) h)
 word-of (w ∷ ws) h (suc c) = word-of ws (and-right (same (capitals w) w) _ h) c
 
-word-stays : (c : ℕ) → InCapitals (qualifierWord c)
+word-stays : (names : List (List ℕ)) → allOf (λ w. same (capitals w) w) names ≡ true → (c : ℕ) → InCapitals (qualifierWord names c)
 unfolding capital qualifierWord
-word-stays c = word-of qualifierWords refl c
+word-stays names stay c = word-of (qualifierWords names) stay c
 
 shape-stays : (shape : Shape) → InCapitals (shapeWord shape)
 unfolding capital shapeWord
@@ -72,22 +74,25 @@ tags-stay : InCapitals (bytes "OK") × InCapitals (bytes "G") × InCapitals (byt
 unfolding capital
 tags-stay = (refl, refl, refl, refl)
 
-module _ (m : Machine) (word : Slot → ℕ) (shape : Slot → Shape) where
+module _ (m : Machine) (sound : Sound (m .schemes)) (word : Slot → ℕ) (shape : Slot → Shape) where
+  own : (c : ℕ) → InCapitals (qualifierWord (m .schemes .names) c)
+  own = word-stays (m .schemes .names) (names-stay (m .schemes .names) (sound .named))
+
   variable-capitals : (k : ℕ) → InCapitals (variableLine m word shape k)
   unfolding variableLine
-  variable-capitals k = by (mentions m (k + 7))
+  variable-capitals k = by (mentions m (k + words (m .schemes)))
     where
-      by : (t : Bool) → InCapitals (cond t (line (bytes "G" ∷ decimal k ∷ qualifierWord (word (variable k)) ∷ [])) [])
-      by true = line-capitals _ (tags-stay .1 ∷ᴬ number-stays k ∷ᴬ word-stays _ ∷ᴬ []ᴬ)
+      by : (t : Bool) → InCapitals (cond t (line (bytes "G" ∷ decimal k ∷ qualifierWord (m .schemes .names) (word (variable k)) ∷ [])) [])
+      by true = line-capitals _ (tags-stay .1 ∷ᴬ number-stays k ∷ᴬ own _ ∷ᴬ []ᴬ)
       by false = refl
 
   param-capitals : (p : ℕ) → InCapitals (paramLine m word shape p)
   unfolding paramLine
-  param-capitals p = line-capitals _ (tags-stay .2 ∷ᴬ number-stays p ∷ᴬ word-stays _ ∷ᴬ shape-stays _ ∷ᴬ []ᴬ)
+  param-capitals p = line-capitals _ (tags-stay .2 ∷ᴬ number-stays p ∷ᴬ own _ ∷ᴬ shape-stays _ ∷ᴬ []ᴬ)
 
   row-capitals : (i : ℕ) → InCapitals (rowLine m word shape i)
   unfolding rowLine
-  row-capitals i = line-capitals _ (tags-stay .3 ∷ᴬ number-stays i ∷ᴬ word-stays _ ∷ᴬ shape-stays _ ∷ᴬ []ᴬ)
+  row-capitals i = line-capitals _ (tags-stay .3 ∷ᴬ number-stays i ∷ᴬ own _ ∷ᴬ shape-stays _ ∷ᴬ []ᴬ)
 
   report-capitals : InCapitals (report m word shape)
   unfolding report
@@ -97,8 +102,8 @@ module _ (m : Machine) (word : Slot → ℕ) (shape : Slot → Shape) where
       let with-params = both _ _ with-variables (lines-capitals _ param-capitals 0 (length (m .params))) in
       both _ _ with-params (lines-capitals _ row-capitals 0 (length (m .terms)))
 
-pub reported-capitals : {m : Machine} {buffer : List ℕ} {o : Outcome} → Infers m buffer o → o .number ≡ 0 → capitals (reportIn o) ≡ reportIn o
-reported-capitals {m} {buffer} {o} i accepted =
+pub reported-capitals : {m : Machine} {buffer : List ℕ} {o : Outcome} → Sound (m .schemes) → Infers m buffer o → o .number ≡ 0 → capitals (reportIn o) ≡ reportIn o
+reported-capitals {m} {buffer} {o} sound i accepted =
     let (word, shape, size, after, greatest) = reported-greatest i accepted in
     let front : reportIn o ≡ report m word shape = ap₂ take size after ∙ take-append-seam (report m word shape) _ in
-    ap capitals front ∙ report-capitals m word shape ∙ sym front
+    ap capitals front ∙ report-capitals m sound word shape ∙ sym front

@@ -9,6 +9,7 @@ use lib.Seq.{take-append-seam, drop-append-add}
 use Rattle.model.specs.Lists.{contains, lengthBefore}
 use Rattle.model.specs.Number.{decimal}
 use Rattle.model.specs.Line.{onto}
+use Rattle.scheme.specs.Six.{sixTable}
 use Rattle.model.specs.Machine.{freshMachine}
 use Rattle.model.specs.Session.{Call, add, redeclare, take-back, infer, Outcome, Session}
 use Rattle.model.specs.Text.{linesOf}
@@ -117,7 +118,7 @@ lines-held : (trace : List (Call × Outcome)) → All Spelled (callsOf trace) �
 lines-held [] All.[]ᴬ = Transcript.end
 lines-held ((call, o) ∷ trace) (All._∷ᴬ_ spelled more) = Transcript.calls (spelled-makes call spelled) (lines-held trace more)
 
-pub list-converses : {trace : List (Call × Outcome)} → All Spelled (callsOf trace) → Session freshMachine trace → Conversation (scriptOf (callsOf trace)) (answersOf trace)
+pub list-converses : {trace : List (Call × Outcome)} → All Spelled (callsOf trace) → Session (freshMachine sixTable) trace → Conversation (scriptOf (callsOf trace)) (answersOf trace)
 list-converses {trace} spelled session =
     record {
       trace = trace;

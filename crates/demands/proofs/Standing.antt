@@ -23,7 +23,7 @@ either-same false a = refl
 
 pub answers-described : {m after : Machine} {call : Call} {o : Outcome} → Answers m call o after → after ≡ cond (eqb (o .number) 0) (described m call) m
 unfolding added redeclared takenBack settled
-answers-described {m} (adds {line}) = entered-described m (lineOf line)
+answers-described {m} (adds {line}) = entered-described m (lineOf (m .schemes .names) line)
 answers-described redeclares = refl
 answers-described takes-back = refl
 answers-described {m} {o = o} (infers i) = either-same (eqb (o .number) 0) m

@@ -4,27 +4,25 @@ use Prim.Native.Nat.{ℕ}
 use mathlib.Core.List.{List, _++_}
 use mathlib.Core.Path.{_≡_}
 use lib.ListN.{length, drop}
-use Rattle.scheme.specs.Qualifier.{Qualifier}
 use Rattle.model.specs.Machine.{Machine}
 use Rattle.model.specs.Typing.{Ty, Assignment}
-use Rattle.model.specs.Strength.{six}
-use Rattle.model.specs.Inference.{Slot, Listed, qualifierOf, typeOf, IsInt, IsArrow, Shape, Types}
+use Rattle.model.specs.Inference.{ruling, Slot, Listed, qualifierOf, typeOf, IsInt, IsArrow, Shape, Types}
 use Rattle.model.specs.Report.{report}
 use Rattle.model.specs.Session.{Outcome}
 use Rattle.demands.specs.Floors.{MeetsFloors}
 
 -- A type of the shape, "with ANY taken as INT".
-abbrev pub HasShape : Shape → Ty Qualifier → Type 0
+abbrev pub HasShape : {Q : Type 0} → Shape → Ty Q → Type 0
 HasShape Shape.int τ = IsInt τ
 HasShape Shape.arrow τ = IsArrow τ
 HasShape Shape.any τ = IsInt τ
 
 -- "schemes and shapes that complete to a typing": some one typing has them all.
 pub record Completes (m : Machine) (word : Slot → ℕ) (shape : Slot → Shape) : Type 0 where
-  pub typing : Assignment Qualifier
-  pub types : Types six m typing
-  pub has-words : (x : Slot) → Listed six m x → qualifierOf typing x ≡ six .word (word x)
-  pub has-shapes : (x : Slot) → Listed six m x → HasShape (shape x) (typeOf typing x)
+  pub typing : Assignment (ruling m .Q)
+  pub types : Types (ruling m) m typing
+  pub has-words : (x : Slot) → Listed (ruling m) m x → qualifierOf typing x ≡ ruling m .word (word x)
+  pub has-shapes : (x : Slot) → Listed (ruling m) m x → HasShape (shape x) (typeOf typing x)
 
 -- The bytes of the outcome are the report of schemes and shapes of which something holds, and beyond it those of the buffer.
 abbrev pub Reports : Machine → List ℕ → Outcome → ((Slot → ℕ) → (Slot → Shape) → Type 0) → Type 0

@@ -12,7 +12,7 @@ use Rattle.model.specs.Session.{Call, add}
 pub record SameButCase (s t : List ℕ) : Type 0 where
   pub same-capitals : capitals s ≡ capitals t
   pub same-tag : field s 0 ≡ field t 0
-  pub same-variables : (k : ℕ) → variableOf (field s k) ≡ variableOf (field t k)
+  pub same-variables : (n k : ℕ) → variableOf n (field s k) ≡ variableOf n (field t k)
 
 -- The same call, but for the case of words in a line that it adds.
 pub data SameCallButCase : Call → Call → Type 0 where

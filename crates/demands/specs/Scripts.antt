@@ -7,6 +7,7 @@ use mathlib.Core.Path.{_≡_}
 use lib.ListN.{length, drop}
 use Rattle.model.specs.Lists.{contains, bytes}
 use Rattle.model.specs.Number.{decimal}
+use Rattle.scheme.specs.Six.{sixTable}
 use Rattle.model.specs.Machine.{freshMachine}
 use Rattle.model.specs.Session.{Call, add, redeclare, take-back, infer, Outcome, Session}
 use Rattle.model.specs.Text.{linesOf}
@@ -17,7 +18,7 @@ pub record OneSession (script output : List ℕ) (n : ℕ) (after : List ℕ) : 
   pub trace : List (Call × Outcome)
   pub answers : List ℕ
   -- the list is one of demand 3, from a fresh machine
-  pub session : Session freshMachine trace
+  pub session : Session (freshMachine sixTable) trace
   -- its calls are those of the script's lines in turn, and the answers are those of the lines, one after the other
   pub transcript : Transcript (linesOf script) trace answers
   -- with room for all answers: their length is returned, and they alone are written

@@ -13,19 +13,19 @@ use Rattle.model.specs.declared.Line.the-variants.{TypeLine, ParamLine, TermLin
 
 -- **Add**: "appends one entry to its list". Without a form no line is accepted.
 abbrev pub appended : Machine → Line → Machine
-appended m (TypeLine i form) = record { types = m .types ++ (record { form = form } ∷ []); params = m .params; terms = m .terms }
-appended m (ParamLine p param) = record { types = m .types; params = m .params ++ (param ∷ []); terms = m .terms }
-appended m (TermLine i term) = record { types = m .types; params = m .params; terms = m .terms ++ (record { term = term } ∷ []) }
+appended m (TypeLine i form) = record { schemes = m .schemes; types = m .types ++ (record { form = form } ∷ []); params = m .params; terms = m .terms }
+appended m (ParamLine p param) = record { schemes = m .schemes; types = m .types; params = m .params ++ (param ∷ []); terms = m .terms }
+appended m (TermLine i term) = record { schemes = m .schemes; types = m .types; params = m .params; terms = m .terms ++ (record { term = term } ∷ []) }
 appended m NoForm = m
 
 -- What an accepted call makes of the lists.
 abbrev pub described : Machine → Call → Machine
-described m (add line) = appended m (lineOf line)
+described m (add line) = appended m (lineOf (m .schemes .names) line)
 -- **Redeclare**: "replaces that parameter's qualifier".
 described m (redeclare p code) =
-    record { types = m .types; params = set (m .params) p (withQualifier code (paramAt m p)); terms = m .terms }
+    record { schemes = m .schemes; types = m .types; params = set (m .params) p (withQualifier code (paramAt m p)); terms = m .terms }
 -- **Take-back**: "drops the last term row".
-described m take-back = record { types = m .types; params = m .params; terms = take (length (m .terms) - 1) (m .terms) }
+described m take-back = record { schemes = m .schemes; types = m .types; params = m .params; terms = take (length (m .terms) - 1) (m .terms) }
 -- **Infer**: "reads the lists, changes none".
 described m (infer buffer) = m
 

@@ -1,5 +1,6 @@
 // The floors of the parameters: the lowest parameter whose word is not at or above its floor.
 ghost use Prim.Native.Nat.{_≤_};
+ghost use Rattle.scheme.specs.Rule.{Lattice};
 ghost use Rattle.floors.specs.Lowest.{Worded, Lowest};
 use model::Param;
 
@@ -9,16 +10,16 @@ pub enum Missed {
     Nowhere,
 }
 
-// Looks for the first parameter whose floor is not at or below its word, both given by their codes.
-pub fn lowest_missed(params: [Param; 64], count: usize, words: &[u8; 64]) -> Missed
-    requires { ⌜ (count ≤ 64) × Worded count params (now words) ⌝ }
-    ensures { λ r. ⌜ Lowest count params (now (words .entry)) r ⌝ }
+// Looks for the first parameter whose floor is not at or below its word, both given by their codes, under a ruling.
+pub fn lowest_missed(rule: &[u8; 88], params: [Param; 64], count: usize, words: &[u8; 64]) -> Missed
+    requires { ⌜ Lattice (now rule) ⌝ ∗ ⌜ (count ≤ 64) × Worded (now rule) count params (now words) ⌝ }
+    ensures { λ r. ⌜ Lowest (now (rule .entry)) count params (now (words .entry)) r ⌝ }
 {
     let mut p = 0;
     while p < count {
         let param = params[p];
         let word = words[p];
-        if !scheme::at_or_below(param.floor, word) {
+        if !scheme::is_under(rule, param.floor, word) {
             return Missed::At(p);
         }
         p += 1;

@@ -3,24 +3,27 @@ use Prim.Native.Nat.{ℕ, zero, suc, _≤_, _<_}
 use native.Mathlib.Omega.{arith}
 use mathlib.Core.Bool.{Bool, true, false, not}
 use mathlib.Core.List.{List, [], _∷_, _++_}
-use mathlib.Core.Path.{_≡_, refl, ap, subst, subst₂}
+use mathlib.Core.Path.{_≡_, refl, sym, ap, subst, subst₂}
 use lib.ListN.{length, take, drop}
 use Rattle.model.specs.Machine.{Machine}
 use borrow.Author.Tests.{not-true}
 use Rattle.model.specs.Closed.{Closed}
-use Rattle.model.specs.Strength.{six}
-use Rattle.model.specs.Inference.{Slot, Shape, Cause, Refusal, FloorsMet, FloorMissed, Judged, not-closed, not-typable, below-floor, typed}
+use Rattle.model.specs.Inference.{ruling, Slot, Shape, Cause, Refusal, FloorsMet, FloorMissed, Judged, not-closed, not-typable, below-floor, typed}
 use Rattle.model.specs.Report.{report}
 use Rattle.model.specs.Session.{Outcome, refusing, reporting, Infers, short, refused, accepted}
+use Rattle.scheme.proofs.Schemes.{sound-short}
+use Rattle.schemes.specs.Schemes.{tableIn}
+use Rattle.model.specs.Line.{fields}
 use Rattle.table.specs.Lists.{lists}
 use Rattle.table.specs.declared.Table.{Table}
 use Rattle.closed.specs.Decides.{Decides}
 use Rattle.setup.specs.Descriptors.{machineOf}
 use Rattle.report.specs.Codes.{Codes, wordOf, shapeOf}
-use Rattle.report.specs.Written.{Matches, Written, reportOf}
-use Rattle.solver.specs.Runs.{Solves}
+use Rattle.report.specs.Written.{Short, Matches, Written, reportOf}
+use Rattle.solver.specs.Runs.{Solves, Governed}
 use Rattle.solver.specs.declared.Answer.the-variants.{Placed}
 use Rattle.inference.specs.Outcome.{outcome}
+use Rattle.table.specs.Ready.{Ready}
 use Rattle.inference.specs.declared.Inferred.{Inferred}
 
 -- Taking as many as were taken takes the same.
@@ -31,16 +34,34 @@ take-taken (suc n) (x ∷ l) = ap (λ k. x ∷ k) (take-taken n l)
 
 -- The arrays with the numbers of entries that stand are the table's lists.
 pub same-machine : (t : Table) (a b d : ℕ) → a ≡ length (lists t .types) → b ≡ length (lists t .params) → d ≡ length (lists t .terms) →
-    machineOf (t .types) a (t .params) b (t .terms) d ≡ lists t
+    machineOf (tableIn (t .schemes)) (t .types) a (t .params) b (t .terms) d ≡ lists t
 unfolding lists
 same-machine t a b d e f g = rw (e, f, g, take-taken (t .typecount) (t .types), take-taken (t .paramcount) (t .params), take-taken (t .termcount) (t .terms))
+
+-- The ruling of a table that is ready governs its machine.
+pub ready-governed : (t : Table) → Ready t → Governed (t .schemes .rule) (lists t)
+unfolding lists
+ready-governed t ready = record { ruled = ready .kept .ruled; well-formed = ready .well-formed }
+
+pub machine-governed : (t : Table) → Ready t → (a b d : ℕ) → a ≡ length (lists t .types) → b ≡ length (lists t .params) → d ≡ length (lists t .terms) →
+    Governed (t .schemes .rule) (machineOf (tableIn (t .schemes)) (t .types) a (t .params) b (t .terms) d)
+machine-governed t ready a b d e f g = subst (Governed (t .schemes .rule)) (sym (same-machine t a b d e f g)) (ready-governed t ready)
+
+-- The names that the report is written with are the machine's.
+module _ (t : Table) (text : List ℕ) (is : text ≡ take (t .schemes .size) (t .schemes .names)) where
+  pub front-names : lists t .schemes .names ≡ fields text
+  unfolding lists tableIn
+  front-names = ap fields (sym is)
+
+  pub front-short : Ready t → Short (fields text)
+  front-short ready = rw (front-names) at (sound-short (ready .well-formed .schemes-sound))
 
 -- A refusal's three numbers, with the buffer as it was.
 refuses-is : (r : Inferred) (number row : ℕ) (buffer : List ℕ) → (r .number ≡ number) × (r .row ≡ row) × (r .size ≡ 0) → refusing number row buffer ≡ outcome r buffer
 refuses-is r number row buffer is = let e = is .0 in let f = is .1 in let g = is .2 in cc
 
 -- A cause's number is none of an accepted call.
-cause-numbered : {m : Machine} {k number : ℕ} → Cause six m k number → ¬ (number ≡ 0)
+cause-numbered : {m : Machine} {k number : ℕ} → Cause (ruling m) m k number → ¬ (number ≡ 0)
 cause-numbered (Cause.shapes none) z = omega arith
 cause-numbered (Cause.qualifiers some none) z = omega arith
 cause-numbered (Cause.bounds some) z = omega arith
@@ -58,19 +79,19 @@ module _ (m : Machine) (buffer : List ℕ) (r : Inferred) where
 
     module _ (closed : Closed m) where
       -- 21 to 23
-      pub row-refused : (number row : ℕ) → Refusal six m number row → (r .number ≡ number) × (r .row ≡ row) × (r .size ≡ 0) → Infers m buffer (outcome r buffer)
+      pub row-refused : (number row : ℕ) → Refusal (ruling m) m number row → (r .number ≡ number) × (r .row ≡ row) × (r .size ≡ 0) → Infers m buffer (outcome r buffer)
       row-refused number row refusal is =
           subst (Infers m buffer) (refuses-is r number row buffer is)
           (refused {word = λ x. 0} {shape = λ x. Shape.int} h (not-typable closed refusal) (cause-numbered (refusal .cause)))
 
       -- 24
-      pub floor-refused : (codes : Codes) (p : ℕ) → Solves m codes Placed → FloorMissed six m (wordOf codes) p → (r .number ≡ 24) × (r .row ≡ p) × (r .size ≡ 0) → Infers m buffer (outcome r buffer)
+      pub floor-refused : (codes : Codes) (p : ℕ) → Solves m codes Placed → FloorMissed (ruling m) m (wordOf codes) p → (r .number ≡ 24) × (r .row ≡ p) × (r .size ≡ 0) → Infers m buffer (outcome r buffer)
       floor-refused codes p solves missed is =
           subst (Infers m buffer) (refuses-is r 24 p buffer is) (refused h (below-floor closed (solves .0) missed) (λ z. omega arith))
 
       -- the report
-      pub report-written : (codes : Codes) (after : List ℕ) (params rows size : ℕ) → Solves m codes Placed → FloorsMet six m (wordOf codes) →
-          length (m .params) ≡ params → length (m .terms) ≡ rows → Written codes params rows buffer after size → (r .number ≡ 0) × (r .row ≡ 0) × (r .size ≡ size) → Infers m buffer (outcome r after)
-      report-written codes after params rows size solves met e f written is =
+      pub report-written : (names : List (List ℕ)) (codes : Codes) (after : List ℕ) (params rows size : ℕ) → m .schemes .names ≡ names → Solves m codes Placed → FloorsMet (ruling m) m (wordOf codes) →
+          length (m .params) ≡ params → length (m .terms) ≡ rows → Written names codes params rows buffer after size → (r .number ≡ 0) × (r .row ≡ 0) × (r .size ≡ size) → Infers m buffer (outcome r after)
+      report-written names codes after params rows size same solves met e f written is =
           let matches = subst₂ (Matches m codes) e f (solves .1) in
-          subst (Infers m buffer) (cc (is .0, is .1, is .2, written .buffer m matches, written .size m matches)) (accepted h (typed closed (solves .0) met))
+          subst (Infers m buffer) (cc (is .0, is .1, is .2, written .buffer m same matches, written .size m same matches)) (accepted h (typed closed (solves .0) met))

@@ -1,5 +1,5 @@
-pub mod Floors
 pub mod Judging
+pub mod Floors
 pub mod Follows
 pub mod Corollaries
 pub mod Contracts

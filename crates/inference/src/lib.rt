@@ -2,13 +2,13 @@
 ghost use mathlib.Core.Path.{_≡_};
 ghost use Prim.Native.Nat.{ℕ, _≤_, _<_};
 ghost use lib.ListN.{length};
-ghost use Rattle.model.specs.WellFormed.{WellFormed};
 ghost use Rattle.model.specs.Closed.{Closed};
 ghost use Rattle.model.specs.Session.{Infers};
 ghost use Rattle.table.specs.Lists.{lists};
 ghost use Rattle.report.specs.Codes.{codesOf};
 ghost use Rattle.solver.specs.Runs.{Solves};
 ghost use Rattle.inference.specs.Outcome.{outcome};
+ghost use Rattle.table.specs.Ready.{Ready};
 ghost use Rattle.inference.specs.Printed.{Printed};
 use floors::Missed;
 use solver::Answer;
@@ -27,7 +27,7 @@ pub const REPORT: usize = 6280;
 
 // Writes the report of the program that stands in the table, or refuses it and leaves the buffer as it was.
 pub fn infer(table: Table, buffer: &mut [u8]) -> Inferred
-    requires { ⌜ WellFormed (lists table) ⌝ }
+    requires { ⌜ Ready table ⌝ }
     ensures { λ r. ⌜ Infers (lists table) (now (buffer .entry)) (outcome r (now (buffer .exit))) ⌝ }
 {
     if buffer.len() < REPORT {
@@ -41,7 +41,7 @@ pub fn infer(table: Table, buffer: &mut [u8]) -> Inferred
 
 // Infers, and writes what is printed of that at the front of the buffer: the report, or the line of the refusal. Returns its length.
 pub fn print(table: Table, buffer: &mut [u8]) -> usize
-    requires { ⌜ WellFormed (lists table) × (6280 ≤ length (now buffer)) ⌝ }
+    requires { ⌜ Ready table × (6280 ≤ length (now buffer)) ⌝ }
     ensures { λ r. ⌜ Printed (lists table) (now (buffer .entry)) (now (buffer .exit)) r ⌝ }
 {
     let inferred = infer(table, buffer);
@@ -63,7 +63,7 @@ fn refusal(number: u8, row: usize) -> Inferred
 
 // The report of a closed program; or the least row that leaves no typing; or the lowest parameter that misses its floor.
 fn place(table: Table, buffer: &mut [u8]) -> Inferred
-    requires { ⌜ WellFormed (lists table) × Closed (lists table) × (6280 ≤ length (now buffer)) ⌝ }
+    requires { ⌜ Ready table × Closed (lists table) × (6280 ≤ length (now buffer)) ⌝ }
     ensures { λ r. ⌜ Infers (lists table) (now (buffer .entry)) (outcome r (now (buffer .exit))) ⌝ }
 {
     let mut variables = [0u8; 64];
@@ -102,15 +102,19 @@ fn report_above_floors(
     row_words: &[u8; 256],
     row_shapes: &[u8; 256],
 ) -> Inferred
-    requires { ⌜ WellFormed (lists table) × Closed (lists table) × (6280 ≤ length (now buffer)) × Solves (lists table) (codesOf (now variables) (now «param_words») (now «param_shapes») (now «row_words») (now «row_shapes»)) Answer.Placed ⌝ }
+    requires { ⌜ Ready table × Closed (lists table) × (6280 ≤ length (now buffer)) × Solves (lists table) (codesOf (now variables) (now «param_words») (now «param_shapes») (now «row_words») (now «row_shapes»)) Answer.Placed ⌝ }
     ensures { λ r. ⌜ Infers (lists table) (now (buffer .entry)) (outcome r (now (buffer .exit))) ⌝ }
 {
+    let schemes = table.schemes;
+    let rule = schemes.rule;
+    let names = schemes.names;
     let params = table.params;
-    match floors::lowest_missed(params, table.parameters(), param_words) {
+    match floors::lowest_missed(&rule, params, table.parameters(), param_words) {
         Missed::At(p) => refusal(24, p),
         Missed::Nowhere => {
             let size = report::write(
                 buffer,
+                schemes::front(&names, schemes.size),
                 variables,
                 param_words,
                 param_shapes,
@@ -137,13 +141,16 @@ pub fn solve(
     row_words: &mut [u8; 256],
     row_shapes: &mut [u8; 256],
 ) -> Answer
-    requires { ⌜ WellFormed (lists table) × (0 < length (lists table .terms)) ⌝ }
+    requires { ⌜ Ready table × (0 < length (lists table .terms)) ⌝ }
     ensures { λ r. ⌜ Solves (lists table) (codesOf (now (variables .exit)) (now («param_words» .exit)) (now («param_shapes» .exit)) (now («row_words» .exit)) (now («row_shapes» .exit))) r ⌝ }
 {
+    let schemes = table.schemes;
+    let rule = schemes.rule;
     let types = table.types;
     let params = table.params;
     let terms = table.terms;
     solver::solve(
+        &rule,
         types,
         table.type_rows(),
         params,

@@ -25,14 +25,14 @@ use Rattle.lent.proofs.take_back as lent-take-back
 abbrev pub left : Table → ℕ → Answered
 left after number = record { table = after; number = number }
 
-pub add-covered : (before after : Table) (line : List ℕ) (number : ℕ) → change (left after number) ≡ added (lists before) line → Called before (add line) (left after number)
-add-covered before after line number e = adds e
+pub add-covered : (before after : Table) (line : List ℕ) (number : ℕ) → (change (left after number) ≡ added (lists before) line) × (after .schemes ≡ before .schemes) → Called before (add line) (left after number)
+add-covered before after line number e = adds (e .0) (e .1)
 
-pub redeclare-covered : (before after : Table) (p code number : ℕ) → change (left after number) ≡ redeclared (lists before) p code → Called before (redeclare p code) (left after number)
-redeclare-covered before after p code number e = redeclares e
+pub redeclare-covered : (before after : Table) (p code number : ℕ) → (change (left after number) ≡ redeclared (lists before) p code) × (after .schemes ≡ before .schemes) → Called before (redeclare p code) (left after number)
+redeclare-covered before after p code number e = redeclares (e .0) (e .1)
 
-pub take-back-covered : (before after : Table) (number : ℕ) → change (left after number) ≡ takenBack (lists before) → Called before take-back (left after number)
-take-back-covered before after number e = takes-back e
+pub take-back-covered : (before after : Table) (number : ℕ) → (change (left after number) ≡ takenBack (lists before)) × (after .schemes ≡ before .schemes) → Called before take-back (left after number)
+take-back-covered before after number e = takes-back (e .0) (e .1)
 
 -- The same from the `ensures` itself, at the reference as it was passed and as it was left.
 module _ {M : Type 1} (𝓤 : URA M) (H : Heap 𝓤) (A : Atoms 𝓤) (at-mem : Memory → SProp 𝓤) (run : Routine → Fun 𝓤) (table table′ : RefT Table) (number : ℕ) where

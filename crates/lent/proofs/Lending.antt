@@ -29,10 +29,8 @@ use denote.Struct.Steps.{spelt}
 use denote.Struct.Laws as LL
 use denote.Triple.Statement.{Contract, Triple}
 use denote.Triple.Call.{calls-at}
-use Rattle.model.specs.Machine.{Change}
 use Rattle.table.specs.declared.Table.{Table}
 use Rattle.table.specs.declared.Answered.{Answered}
-use Rattle.table.specs.Lists.{change}
 use Rattle.table.proofs.Table as T
 use Rattle.table.proofs.Table.Laws as T′
 use Rattle.table.proofs.Answered as R
@@ -98,23 +96,23 @@ module _ {M : Type 1} {𝓤 : URA M} {H : Heap 𝓤} {A : Atoms 𝓤} {K : Type 
       -- [the observation; the borrow; the arguments; its token; the other tokens]
       move t (2 ∷ []) $ use1 W (‵ (owns Ts a vss) ⊛ ‵ (owns Ts a vss)) (twices 𝓤 H A W Ts copies a vss) $ split t $ move t (2 ∷ 3 ∷ 4 ∷ 5 ∷ []) $ s)
 
-  -- the body up to its `return`. c is the contract of the by-value call: it is asked at x, and says `after`
+  -- the body up to its `return`. c is the contract of the by-value call: it is asked at x, and says `Says`
   pub changes : K → {Γ : List (Item 𝓤)} {E : Env 𝓤 H} {C : Calls 𝓤 H} {Λ : Loops 𝓤 H} {Q : Post 𝓤 H} {Args : Fml} {g : Name} {xs : List Operand} {vs : List Val} {τ : Ty} {l₀ l₁ l₂ l₃ i j : ℕ}
       → (h : Table) → FmC 𝓤 H (W .laws) C → (c : Contract 𝓤) → Triple 𝓤 (C g) c → (x : c .Ghost) → ent 𝓤 (sep 𝓤 (sep 𝓤 (mean 𝓤 H A Tok) (sem 𝓤 H A (fsep (T.the-row .own h (table-vals h)) Args))) (emp 𝓤)) (c .pre x)
-      → {X : Type 0} (said : X → Fml) (after : Change) → ((v : Val) → ent 𝓤 (c .post x v) (mean 𝓤 H A (later (some (λ (r : Answered). (Tok ⊛ ‵ (R.the-row .own r (v ∷ []))) ⊛ some (λ (w : X). ‵ (said w) ⊛ raw (fact 𝓤 (change r ≡ after))))))))
+      → {X : Type 0} (said : X → Fml) (Says : Answered → Type 0) → ((v : Val) → ent 𝓤 (c .post x v) (mean 𝓤 H A (later (some (λ (r : Answered). (Tok ⊛ ‵ (R.the-row .own r (v ∷ []))) ⊛ some (λ (w : X). ‵ (said w) ⊛ raw (fact 𝓤 (Says r))))))))
       → spotOf 𝓤 H E 0 ≡ (tyInt w16, l₀, 0) → spotOf 𝓤 H E 1 ≡ (τ, l₁, 0) → spotOf 𝓤 H E i ≡ (R′.mir, l₂, 0) → spotOf 𝓤 H E j ≡ (T′.mir, l₃, 0)
       → Opds K W (raw (c .pre x) ∷ opened 𝓤 H A κ q γ b o h (at-call 𝓤 H A κ q γ b o h τ l₀ l₁ l₂ l₃ Γ)) E xs vs → only (table-vals h) ∷ vs ≡ c .args x
-      → ((r : Answered) → r .number < 2 ^ 16 → change r ≡ after → Seq K W (lent 𝓤 H A κ q γ b o (r .table) (Tok ∷ at-last 𝓤 H A κ q γ b o h τ l₀ l₁ l₂ l₃ Γ r)) (runs C Λ E return Q))
+      → ((r : Answered) → r .number < 2 ^ 16 → Says r → Seq K W (lent 𝓤 H A κ q γ b o (r .table) (Tok ∷ at-last 𝓤 H A κ q γ b o h τ l₀ l₁ l₂ l₃ Γ r)) (runs C Λ E return Q))
       → Seq K W (lent 𝓤 H A κ q γ b o h (Tok ∷ ‵ Args ∷ at-first 𝓤 H A κ q γ b o h τ l₀ l₁ l₂ l₃ Γ)) (runs C Λ E (in-place i j g xs) Q)
-  changes t {l₂ = l₂} h fm c known x pre said after back at₀ at₁ at₂ at₃ operands args k =
+  changes t {l₂ = l₂} h fm c known x pre said Says back at₀ at₁ at₂ at₃ operands args k =
       opens t tt T.the-row {h = h} b o (λ vs. spelt t T.the-row (Is T.the-row) (shows 𝓤 H A T.the-row) table-vals (LL.tells T.the-type T′.the-laws) fullShare h vs b o $
       move t (1 ∷ []) $ peeks t T.the-row (Is T.the-row) (shows 𝓤 H A T.the-row) h (table-vals h) (λ is.
       -- [what the table owns; its cell; the open borrow; the observation; the authority; the tokens; the arguments; room for the copy; room for the answer; the reference; ..]
       assigns t (of-opd t (load t (at-local t at₁ (hop t (look t 9 refl) (stop t))) (look-raw t 1 refl))) (at-local t at₃ (stop t)) (init t 7 refl (LL.lawful T.the-type T′.the-laws 𝓤 H A W .typed h _ is .0)) $
       move t (0 ∷ 6 ∷ []) $ fjoin t $ move t (5 ∷ 0 ∷ []) $ join t $ nothing t $ move t (1 ∷ 0 ∷ []) $ join t $ use1 W (raw (c .pre x)) pre $
       calls-at t fm c known x (subst (Opds K W _ _ _) args (and-then t (load t (at-local t at₃ (stop t)) (look t 5 refl)) operands)) (λ v.
-      use1 W (later (some (λ (r : Answered). (Tok ⊛ ‵ (R.the-row .own r (v ∷ []))) ⊛ some (λ w. ‵ (said w) ⊛ raw (fact 𝓤 (change r ≡ after)))))) (back v) $ await t tt $ pick t (λ r.
-      split t $ move t (1 ∷ []) $ pick t (λ w. split t $ drop t $ heard t (change r ≡ after) (λ e. split t $ move t (1 ∷ []) $
+      use1 W (later (some (λ (r : Answered). (Tok ⊛ ‵ (R.the-row .own r (v ∷ []))) ⊛ some (λ w. ‵ (said w) ⊛ raw (fact 𝓤 (Says r)))))) (back v) $ await t tt $ pick t (λ r.
+      split t $ move t (1 ∷ []) $ pick t (λ w. split t $ drop t $ heard t (Says r) (λ e. split t $ move t (1 ∷ []) $
       peeks t R.the-row (Is R.the-row) (shows 𝓤 H A R.the-row) r (v ∷ []) (λ are. drop t $
       -- [the tokens; the table's cell; the open borrow; the observation; the authority; the copy; room for the answer; the reference; room for the number; ..]
       land t (at-local t at₂ (stop t)) (init t 6 refl (LL.lawful R.the-type R′.the-laws 𝓤 H A W .typed r _ are .0)) $

@@ -1,5 +1,5 @@
 -- How large the values are that the definitions of a number, a qualifier, a floor, a scheme and an operation give.
-use Prim.Native.Nat.{ℕ, _+_, _≤_, _<_}
+use Prim.Native.Nat.{ℕ, suc, _+_, _≤_, _<_}
 use native.Mathlib.Nat.{le-of-lt}
 use native.Mathlib.Omega.{arith}
 use mathlib.Core.Bool.{Bool, true, false, _&&_, cond}
@@ -14,10 +14,11 @@ use borrow.Author.Tests.{leb-true, eqb-true}
 use Rattle.scheme.proofs.Every.{and-right}
 use Rattle.model.specs.Lists.{allOf}
 use Rattle.model.specs.Number.{isDigit, valueFrom, noLeadingZero, numberOf}
-use Rattle.model.specs.Word.{spells, placeIn, qualifierWords, operationWords, schemeWords, orElse, variableCode, wordOf, variableOf, qualifierOf, schemeOf, operationOf}
+use Rattle.model.specs.Word.{spells, placeIn, qualifierWords, operationWords, orElse, variableCode, wordOf, variableOf, qualifierOf, schemeOf, operationOf}
 use Rattle.model.specs.Line.{fields, field, floor}
 use Rattle.model.specs.declared.Field.{Field}
 use Rattle.model.specs.declared.Field.the-variants.{Value, NoValue}
+use Rattle.line.specs.Names.{Few}
 
 -- No value is none.
 pub none-is-none : {A : Type 0} (n : ℕ) → NoValue ≡ Value n → A
@@ -47,58 +48,59 @@ place-between c (word ∷ words) s n e = by (spells s word) e (place-between (c 
     by true p q = let v : c ≡ n = cc in (omega arith, omega arith)
     by false p q = let r : (c + 1 ≤ n) × (n < c + 1 + length words) = q p in (omega arith, omega arith)
 
-pub word-at-most : (s : List ℕ) (c : ℕ) → wordOf s ≡ Value c → c ≤ 6
+pub word-below : (names : List (List ℕ)) (s : List ℕ) (c : ℕ) → wordOf names s ≡ Value c → c < suc (length names)
 unfolding wordOf
-word-at-most s c e = let r : c < 7 = place-between 0 qualifierWords s c e .1 in omega arith
+word-below names s c e = omega (arith, place-between 0 (qualifierWords names) s c e .1)
 
-pub scheme-between : (s : List ℕ) (c : ℕ) → schemeOf s ≡ Value c → (1 ≤ c) × (c ≤ 6)
+pub scheme-between : (names : List (List ℕ)) (s : List ℕ) (c : ℕ) → schemeOf names s ≡ Value c → (1 ≤ c) × (c < suc (length names))
 unfolding schemeOf
-scheme-between s c e = let r : (1 ≤ c) × (c < 7) = place-between 1 schemeWords s c e in (r .0, omega arith)
+scheme-between names s c e = let r = place-between 1 names s c e in (r .0, omega (arith, r .1))
 
 pub operation-below : (s : List ℕ) (c : ℕ) → operationOf s ≡ Value c → c < 5
 unfolding operationOf
 operation-below s c e = place-between 0 operationWords s c e .1
 
 -- A variable begins with `g`, and its number follows.
-pub variable-cases : {P : Type 0} (s : List ℕ) (c : ℕ) → variableOf s ≡ Value c →
-    ((digits : List ℕ) (k : ℕ) → s ≡ 103 ∷ digits → numberOf 63 digits ≡ Value k → k + 7 ≡ c → P) → P
-variable-cases [] c e found = none-is-none c e
-variable-cases {P} (b ∷ bs) c e found = go (eqb b 103) (numberOf 63 bs) refl refl e
+pub variable-cases : {P : Type 0} (n : ℕ) (s : List ℕ) (c : ℕ) → variableOf n s ≡ Value c →
+    ((digits : List ℕ) (k : ℕ) → s ≡ 103 ∷ digits → numberOf 63 digits ≡ Value k → k + n ≡ c → P) → P
+variable-cases n [] c e found = none-is-none c e
+variable-cases {P} n (b ∷ bs) c e found = go (eqb b 103) (numberOf 63 bs) refl refl e
   where
-    go : (t : Bool) (f : Field) → eqb b 103 ≡ t → numberOf 63 bs ≡ f → cond t (variableCode f) NoValue ≡ Value c → P
+    go : (t : Bool) (f : Field) → eqb b 103 ≡ t → numberOf 63 bs ≡ f → cond t (variableCode n f) NoValue ≡ Value c → P
     go true (Value k) g p q = found bs k (ap (λ (b : ℕ). b ∷ bs) (eqb-true b 103 g)) p (cc)
     go true NoValue g p q = none-is-none c q
     go false f g p q = none-is-none c q
 
 -- A qualifier is a word, or else a variable.
-pub qualifier-cases : {P : Type 0} (s : List ℕ) (c : ℕ) → qualifierOf s ≡ Value c → (wordOf s ≡ Value c → P) → (variableOf s ≡ Value c → P) → P
+pub qualifier-cases : {P : Type 0} (names : List (List ℕ)) (s : List ℕ) (c : ℕ) → qualifierOf names s ≡ Value c →
+    (wordOf names s ≡ Value c → P) → (variableOf (suc (length names)) s ≡ Value c → P) → P
 unfolding qualifierOf
-qualifier-cases {P} s c e word variable = go (wordOf s) refl e
+qualifier-cases {P} names s c e word variable = go (wordOf names s) refl e
   where
-    go : (f : Field) → wordOf s ≡ f → orElse f (variableOf s) ≡ Value c → P
+    go : (f : Field) → wordOf names s ≡ f → orElse f (variableOf (suc (length names)) s) ≡ Value c → P
     go (Value n) p q = word (p ∙ q)
     go NoValue p q = variable q
 
-pub qualifier-at-most : (s : List ℕ) (c : ℕ) → qualifierOf s ≡ Value c → c ≤ 70
-qualifier-at-most s c e =
-    qualifier-cases s c e
-    (λ word. omega (arith, word-at-most s c word))
-    (λ variable. variable-cases s c variable (λ digits k begins number code. omega (arith, number-at-most 63 digits k number, code)))
+pub qualifier-below : (names : List (List ℕ)) (s : List ℕ) (c : ℕ) → qualifierOf names s ≡ Value c → c < suc (length names) + 64
+qualifier-below names s c e =
+    qualifier-cases names s c e
+    (λ word. omega (arith, word-below names s c word))
+    (λ variable. variable-cases (suc (length names)) s c variable (λ digits k begins number code. omega (arith, number-at-most 63 digits k number, code)))
 
 -- A floor is PLAIN in a line of four fields, or the word that stands last of five.
-pub floor-cases : {P : Type 0} (s : List ℕ) (c : ℕ) → floor s ≡ Value c →
-    (length (fields s) ≡ 4 → 0 ≡ c → P) → (length (fields s) ≡ 5 → wordOf (field s 4) ≡ Value c → P) → P
+pub floor-cases : {P : Type 0} (names : List (List ℕ)) (s : List ℕ) (c : ℕ) → floor names s ≡ Value c →
+    (length (fields s) ≡ 4 → 0 ≡ c → P) → (length (fields s) ≡ 5 → wordOf names (field s 4) ≡ Value c → P) → P
 unfolding floor
-floor-cases {P} s c e left-out word = go (eqb (length (fields s)) 4) (eqb (length (fields s)) 5) refl refl e
+floor-cases {P} names s c e left-out word = go (eqb (length (fields s)) 4) (eqb (length (fields s)) 5) refl refl e
   where
     go : (four five : Bool) → eqb (length (fields s)) 4 ≡ four → eqb (length (fields s)) 5 ≡ five →
-        cond four (Value 0) (cond five (wordOf (field s 4)) NoValue) ≡ Value c → P
+        cond four (Value 0) (cond five (wordOf names (field s 4)) NoValue) ≡ Value c → P
     go true five p p′ q = left-out (eqb-true (length (fields s)) 4 p) (cc)
     go false true p p′ q = word (eqb-true (length (fields s)) 5 p′) q
     go false false p p′ q = none-is-none c q
 
-pub floor-at-most : (s : List ℕ) (c : ℕ) → floor s ≡ Value c → c ≤ 6
-floor-at-most s c e = floor-cases s c e (λ four plain. omega arith) (λ five word. word-at-most (field s 4) c word)
+pub floor-below : (names : List (List ℕ)) (s : List ℕ) (c : ℕ) → floor names s ≡ Value c → c < suc (length names)
+floor-below names s c e = floor-cases names s c e (λ four plain. omega arith) (λ five word. word-below names (field s 4) c word)
 
 -- So what was read fits where its largest value does: each cast of a value that was read is closed by `search (fits, needs)`.
 read-fits : {w : Width} {x r : Field} {n m : ℕ} → r ≡ x → r ≡ Value n → (x ≡ Value n → n ≤ m) → Fits w m → Fits w n
@@ -108,14 +110,15 @@ module _ (w : Width) (s : List ℕ) (r : Field) (n : ℕ) (v : r ≡ Value n) wh
   pub number-fits : (most : ℕ) → r ≡ numberOf most s → Fits w most → Fits w n
   number-fits most e = read-fits e v (number-at-most most s n)
 
-  pub qualifier-fits : r ≡ qualifierOf s → Fits w 70 → Fits w n
-  qualifier-fits e = read-fits e v (qualifier-at-most s n)
+  module _ (names : List ℕ) (few : Few names) where
+    pub qualifier-fits : r ≡ qualifierOf (fields names) s → Fits w 112 → Fits w n
+    qualifier-fits e = read-fits e v (λ p. omega (arith, qualifier-below (fields names) s n p))
 
-  pub floor-fits : r ≡ floor s → Fits w 6 → Fits w n
-  floor-fits e = read-fits e v (floor-at-most s n)
+    pub floor-fits : r ≡ floor (fields names) s → Fits w 48 → Fits w n
+    floor-fits e = read-fits e v (λ p. omega (arith, floor-below (fields names) s n p))
 
-  pub scheme-fits : r ≡ schemeOf s → Fits w 6 → Fits w n
-  scheme-fits e = read-fits e v (λ p. scheme-between s n p .1)
+    pub scheme-fits : r ≡ schemeOf (fields names) s → Fits w 48 → Fits w n
+    scheme-fits e = read-fits e v (λ p. omega (arith, scheme-between (fields names) s n p .1))
 
   pub operation-fits : r ≡ operationOf s → Fits w 5 → Fits w n
   operation-fits e = read-fits e v (λ p. le-of-lt (operation-below s n p))

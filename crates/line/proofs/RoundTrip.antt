@@ -11,6 +11,7 @@ use Rattle.scheme.proofs.Every.{every-at, and-left, and-right, and-both}
 use Rattle.model.specs.Lists.{allOf}
 use Rattle.model.specs.Number.{isDigit, valueFrom, noLeadingZero, numberOf, digits, decimal}
 use Rattle.model.specs.Word.{qualifierWords, capital, capitals, spells, placeIn, variableCode, wordOf, qualifierOf, qualifierWord}
+use Rattle.scheme.specs.Six.{sixTable}
 use Rattle.model.specs.declared.Field.{Field}
 use Rattle.model.specs.declared.Field.the-variants.{Value, NoValue}
 use Rattle.model.proofs.Capitals.{spells-exactly, word-capitals}
@@ -88,9 +89,13 @@ unfolding isValue
 is-value c (Value n) e = ap Value (eqb-true n c e)
 is-value c NoValue e = let z : _≡_ {A = ℕ} 0 1 = cc in absurd (omega arith)
 
-pub word-of-word : (c : ℕ) → c < 7 → wordOf (qualifierWord c) ≡ Value c
+-- The names of the built-in six.
+abbrev sixNames : List (List ℕ)
+sixNames = sixTable .names
+
+pub word-of-word : (c : ℕ) → c < 7 → wordOf sixNames (qualifierWord sixNames c) ≡ Value c
 unfolding capital spells wordOf qualifierWord isValue
-word-of-word c h = is-value c (wordOf (qualifierWord c)) (every-at 7 (λ k. isValue k (wordOf (qualifierWord k))) refl c h)
+word-of-word c h = is-value c (wordOf sixNames (qualifierWord sixNames c)) (every-at 7 (λ k. isValue k (wordOf sixNames (qualifierWord sixNames k))) refl c h)
 
 -- A field is the word of a code exactly where its capitals are the word that is written for the code.
 place-spelled : (c : ℕ) (words : List (List ℕ)) (s : List ℕ) (n : ℕ) → placeIn c words s ≡ Value n → capitals s ≡ getD words (n - c) []
@@ -107,17 +112,19 @@ place-spelled c (word ∷ words) s n e = by (spells s word) refl e (place-spelle
         let one-more : n - c ≡ suc (n - (c + 1)) = omega arith in
         later q ∙ ap (λ (k : ℕ). getD (word ∷ words) k []) (sym one-more)
 
-pub word-exactly : (s : List ℕ) (c : ℕ) → (wordOf s ≡ Value c → capitals s ≡ qualifierWord c) × (c < 7 → capitals s ≡ qualifierWord c → wordOf s ≡ Value c)
+pub word-spelled : (names : List (List ℕ)) (s : List ℕ) (c : ℕ) → wordOf names s ≡ Value c → capitals s ≡ qualifierWord names c
 unfolding wordOf qualifierWord
-word-exactly s c =
-    let first : c - 0 ≡ c = omega arith in
-    (λ e. place-spelled 0 qualifierWords s c e ∙ ap qualifierWord first, λ h e. sym (word-capitals s) ∙ ap wordOf e ∙ word-of-word c h)
+word-spelled names s c e = let first : c - 0 ≡ c = omega arith in place-spelled 0 (qualifierWords names) s c e ∙ ap (qualifierWord names) first
 
-pub qualifier-of-word : (c : ℕ) → c < 7 → qualifierOf (qualifierWord c) ≡ Value c
+pub word-exactly : (s : List ℕ) (c : ℕ) →
+    (wordOf sixNames s ≡ Value c → capitals s ≡ qualifierWord sixNames c) × (c < 7 → capitals s ≡ qualifierWord sixNames c → wordOf sixNames s ≡ Value c)
+word-exactly s c = (word-spelled sixNames s c, λ h e. sym (word-capitals sixNames s) ∙ ap (wordOf sixNames) e ∙ word-of-word c h)
+
+pub qualifier-of-word : (c : ℕ) → c < 7 → qualifierOf sixNames (qualifierWord sixNames c) ≡ Value c
 unfolding qualifierOf
 qualifier-of-word c h = simp (word-of-word c h)
 
 -- No word begins with `g`, so what does is a named variable.
-pub qualifier-of-variable : (k : ℕ) → k ≤ 63 → qualifierOf (103 ∷ decimal k) ≡ Value (k + 7)
+pub qualifier-of-variable : (k : ℕ) → k ≤ 63 → qualifierOf sixNames (103 ∷ decimal k) ≡ Value (k + 7)
 unfolding capital spells qualifierOf wordOf
-qualifier-of-variable k h = ap variableCode (number-of-decimal 63 k h)
+qualifier-of-variable k h = ap (variableCode 7) (number-of-decimal 63 k h)

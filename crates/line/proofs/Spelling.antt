@@ -5,16 +5,16 @@ use native.Mathlib.Nat.{add-zero, add-suc}
 use native.Mathlib.Numerals.{add-one}
 use mathlib.Core.Bool.{Bool, true, false}
 use mathlib.Core.List.{List, [], _∷_}
-use mathlib.Core.Path.{_≡_, refl, sym, _∙_}
+use mathlib.Core.Path.{_≡_, refl, sym, ap, _∙_}
 use lib.ListN.{length, getD, take, drop, drop-of-length-le}
 use lib.Seq.{drop-cons, take-all}
 use mir.Syntax.{w32}
 use mir.Val.{Fits}
 use borrow.Author.Tests.{eq-eqb, ne-eqb}
-use Rattle.model.specs.Lists.{same}
+use Rattle.model.specs.Lists.{same, bytes}
 use Rattle.model.specs.Number.{numberOf}
 use Rattle.model.specs.Line.{fields, field}
-use Rattle.model.specs.Word.{capital, capitals, spells, placeIn, orElse, variableCode, variableOf}
+use Rattle.model.specs.Word.{qualifierWords, capital, capitals, spells, placeIn, wordOf, variableCode, variableOf, qualifierOf}
 use Rattle.model.specs.declared.Field.{Field}
 use Rattle.model.specs.declared.Field.the-variants.{Value, NoValue}
 use Rattle.model.proofs.Lists.{same-length}
@@ -121,33 +121,48 @@ module _ (s words : List ℕ) (first n : ℕ) where
 pub ruleset places = (place-first, place-end, place-here, place-next)
 
 -- A named variable: its first byte, then its number.
-pub variable-none : (s : List ℕ) → length s ≡ 0 → NoValue ≡ variableOf s
-variable-none [] h = refl
-variable-none (b ∷ bs) h = absurd (omega arith)
+pub variable-none : (n : ℕ) (s : List ℕ) → length s ≡ 0 → NoValue ≡ variableOf n s
+variable-none n [] h = refl
+variable-none n (b ∷ bs) h = absurd (omega arith)
 
-pub variable-other : (s : List ℕ) → (getD s 0 0 ≡ 103 → ⊥) → NoValue ≡ variableOf s
-variable-other [] h = refl
-variable-other (b ∷ bs) h = simp (ne-eqb b 103 h)
+pub variable-other : (n : ℕ) (s : List ℕ) → (getD s 0 0 ≡ 103 → ⊥) → NoValue ≡ variableOf n s
+variable-other n [] h = refl
+variable-other n (b ∷ bs) h = simp (ne-eqb b 103 h)
 
-variable-number : (s : List ℕ) → (length s ≡ 0 → ⊥) → getD s 0 0 ≡ 103 → variableCode (numberOf 63 (take (length s - 1) (drop 1 s))) ≡ variableOf s
-variable-number [] h e = absurd (h refl)
-variable-number (b ∷ bs) h e = let l : length bs ≤ length (b ∷ bs) - 1 = omega arith in simp (e, take-all (length (b ∷ bs) - 1) bs l)
+variable-number : (n : ℕ) (s : List ℕ) → (length s ≡ 0 → ⊥) → getD s 0 0 ≡ 103 → variableCode n (numberOf 63 (take (length s - 1) (drop 1 s))) ≡ variableOf n s
+variable-number n [] h e = absurd (h refl)
+variable-number n (b ∷ bs) h e = let l : length bs ≤ length (b ∷ bs) - 1 = omega arith in simp (e, take-all (length (b ∷ bs) - 1) bs l)
 
-module _ (s : List ℕ) (some : length s ≡ 0 → ⊥) (g : getD s 0 0 ≡ 103) (r : Field) (e : r ≡ numberOf 63 (take (length s - 1) (drop 1 s))) where
-  pub variable-value : (k : ℕ) → r ≡ Value k → Value (k + 7) ≡ variableOf s
-  variable-value k v = simp (← variable-number s some g, ← e, v)
+module _ (n : ℕ) (s : List ℕ) (some : length s ≡ 0 → ⊥) (g : getD s 0 0 ≡ 103) (r : Field) (e : r ≡ numberOf 63 (take (length s - 1) (drop 1 s))) where
+  pub variable-value : (k : ℕ) → r ≡ Value k → Value (k + n) ≡ variableOf n s
+  variable-value k v = simp (← variable-number n s some g, ← e, v)
 
-  pub variable-no-value : r ≡ NoValue → NoValue ≡ variableOf s
-  variable-no-value v = simp (← variable-number s some g, ← e, v)
+  pub variable-no-value : r ≡ NoValue → NoValue ≡ variableOf n s
+  variable-no-value v = simp (← variable-number n s some g, ← e, v)
 
-pub variable-fits : (s : List ℕ) (r : Field) (k : ℕ) → r ≡ numberOf 63 s → r ≡ Value k → Fits w32 (k + 7)
-variable-fits s r k e v = omega (arith, number-at-most 63 s k (sym e ∙ v))
+pub variable-fits : (n : ℕ) (s : List ℕ) (r : Field) (k : ℕ) → n ≤ 49 → r ≡ numberOf 63 s → r ≡ Value k → Fits w32 (k + n)
+variable-fits n s r k few e v = omega (arith, number-at-most 63 s k (sym e ∙ v))
 
 pub ruleset variables = (variable-none, variable-other, variable-value, variable-no-value, variable-fits)
 
--- A qualifier: a word's place, else a named variable.
-pub else-first : (x y r : Field) (n : ℕ) → r ≡ x → r ≡ Value n → Value n ≡ orElse x y
-else-first x y r n e v = simp (sym e ∙ v)
+-- A word: PLAIN, else a scheme's name.
+module _ (names : List (List ℕ)) (s : List ℕ) (r : Bool) (e : r ≡ spells s (bytes "PLAIN")) where
+  pub word-plain : r ≡ true → Value 0 ≡ wordOf names s
+  unfolding wordOf
+  word-plain t = simp (sym e ∙ t)
 
-pub else-second : (x y r l : Field) → r ≡ x → r ≡ NoValue → l ≡ y → l ≡ orElse x y
-else-second x y r l e v p = simp (sym e ∙ v) p
+  pub word-named : (v : Field) → r ≡ false → v ≡ placeIn 1 names s → v ≡ wordOf names s
+  unfolding wordOf
+  word-named v t p = simp (sym e ∙ t) p
+
+-- A qualifier: a word's place, else a named variable.
+pub word-first : (names : List (List ℕ)) (s : List ℕ) (r : Field) (n : ℕ) → r ≡ wordOf names s → r ≡ Value n → Value n ≡ qualifierOf names s
+unfolding qualifierOf
+word-first names s r n e v = simp (sym e ∙ v)
+
+pub variable-second : (names : List (List ℕ)) (s : List ℕ) (r l : Field) (n : ℕ) → r ≡ wordOf names s → r ≡ NoValue → n ≡ length names → l ≡ variableOf (n + 1) s →
+    l ≡ qualifierOf names s
+unfolding qualifierOf
+variable-second names s r l n e v counted p =
+    let words : n + 1 ≡ length (qualifierWords names) = omega (arith, counted) in
+    simp (sym e ∙ v) (p ∙ ap (λ (w : ℕ). variableOf w s) words)

@@ -1,6 +1,7 @@
 // The ten forms of a line, where its tag and its kind are known. Every value that is cast was read with a bound that its row holds.
 ghost use mathlib.Core.Path.{_≡_};
-ghost use Rattle.model.specs.Line.{intLine, anyLine, arrowLine, paramLine, lamLine, appLine, opLine, varLine, numLine, encLine};
+ghost use Rattle.line.specs.Names.{Few};
+ghost use Rattle.model.specs.Line.{fields, intLine, anyLine, arrowLine, paramLine, lamLine, appLine, opLine, varLine, numLine, encLine};
 use crate::fields;
 use crate::values;
 use model::Field;
@@ -36,8 +37,9 @@ pub(crate) fn any_line(s: &[u8]) -> Line
 }
 
 // `T,i,ARROW,q,t,q,t`
-pub(crate) fn arrow_line(s: &[u8]) -> Line
-    ensures { λ r. ⌜ r ≡ arrowLine (now (s .entry)) ⌝ }
+pub(crate) fn arrow_line(names: &[u8], s: &[u8]) -> Line
+    requires { ⌜ Few (now names) ⌝ }
+    ensures { λ r. ⌜ r ≡ arrowLine (fields (now (names .entry))) (now (s .entry)) ⌝ }
 {
     if fields::count(s) != 7 {
         return Line::NoForm;
@@ -45,13 +47,13 @@ pub(crate) fn arrow_line(s: &[u8]) -> Line
     let Field::Value(i) = values::number(s, 1) else {
         return Line::NoForm;
     };
-    let Field::Value(argument) = values::qualifier(s, 3) else {
+    let Field::Value(argument) = values::qualifier(names, s, 3) else {
         return Line::NoForm;
     };
     let Field::Value(from) = values::number(s, 4) else {
         return Line::NoForm;
     };
-    let Field::Value(result) = values::qualifier(s, 5) else {
+    let Field::Value(result) = values::qualifier(names, s, 5) else {
         return Line::NoForm;
     };
     let Field::Value(to) = values::number(s, 6) else {
@@ -64,19 +66,20 @@ pub(crate) fn arrow_line(s: &[u8]) -> Line
 }
 
 // `P,p,q,t` or `P,p,q,t,floor`
-pub(crate) fn param_line(s: &[u8]) -> Line
-    ensures { λ r. ⌜ r ≡ paramLine (now (s .entry)) ⌝ }
+pub(crate) fn param_line(names: &[u8], s: &[u8]) -> Line
+    requires { ⌜ Few (now names) ⌝ }
+    ensures { λ r. ⌜ r ≡ paramLine (fields (now (names .entry))) (now (s .entry)) ⌝ }
 {
     let Field::Value(p) = values::number(s, 1) else {
         return Line::NoForm;
     };
-    let Field::Value(q) = values::qualifier(s, 2) else {
+    let Field::Value(q) = values::qualifier(names, s, 2) else {
         return Line::NoForm;
     };
     let Field::Value(t) = values::number(s, 3) else {
         return Line::NoForm;
     };
-    let Field::Value(floor) = values::floor(s) else {
+    let Field::Value(floor) = values::floor(names, s) else {
         return Line::NoForm;
     };
     Line::ParamLine(
@@ -182,8 +185,9 @@ pub(crate) fn num_line(s: &[u8]) -> Line
 }
 
 // `E,i,ENC,s,n`
-pub(crate) fn enc_line(s: &[u8]) -> Line
-    ensures { λ r. ⌜ r ≡ encLine (now (s .entry)) ⌝ }
+pub(crate) fn enc_line(names: &[u8], s: &[u8]) -> Line
+    requires { ⌜ Few (now names) ⌝ }
+    ensures { λ r. ⌜ r ≡ encLine (fields (now (names .entry))) (now (s .entry)) ⌝ }
 {
     if fields::count(s) != 5 {
         return Line::NoForm;
@@ -191,7 +195,7 @@ pub(crate) fn enc_line(s: &[u8]) -> Line
     let Field::Value(i) = values::number(s, 1) else {
         return Line::NoForm;
     };
-    let Field::Value(e) = values::scheme(s, 3) else {
+    let Field::Value(e) = values::scheme(names, s, 3) else {
         return Line::NoForm;
     };
     let Field::Value(n) = values::literal(s, 4) else {

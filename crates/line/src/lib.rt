@@ -1,16 +1,18 @@
 // Reads a line: which of the ten forms its bytes are, with the numbers and codes that stand in it.
-mod fields;
+pub mod fields;
 mod forms;
 pub mod numbers;
 mod values;
 pub mod words;
 
 ghost use mathlib.Core.Path.{_≡_};
-ghost use Rattle.model.specs.Line.{typeLine, leafLine, termLine, lineOf};
+ghost use Rattle.line.specs.Names.{Few};
+ghost use Rattle.model.specs.Line.{fields, typeLine, leafLine, termLine, lineOf};
 use model::Line;
 
-fn type_line(s: &[u8]) -> Line
-    ensures { λ r. ⌜ r ≡ typeLine (now (s .entry)) ⌝ }
+fn type_line(names: &[u8], s: &[u8]) -> Line
+    requires { ⌜ Few (now names) ⌝ }
+    ensures { λ r. ⌜ r ≡ typeLine (fields (now (names .entry))) (now (s .entry)) ⌝ }
 {
     if values::kind(s, b"INT") {
         return forms::int_line(s);
@@ -19,14 +21,15 @@ fn type_line(s: &[u8]) -> Line
         return forms::any_line(s);
     }
     if values::kind(s, b"ARROW") {
-        return forms::arrow_line(s);
+        return forms::arrow_line(names, s);
     }
     Line::NoForm
 }
 
 // The kinds of term row without children.
-fn leaf_line(s: &[u8]) -> Line
-    ensures { λ r. ⌜ r ≡ leafLine (now (s .entry)) ⌝ }
+fn leaf_line(names: &[u8], s: &[u8]) -> Line
+    requires { ⌜ Few (now names) ⌝ }
+    ensures { λ r. ⌜ r ≡ leafLine (fields (now (names .entry))) (now (s .entry)) ⌝ }
 {
     if values::kind(s, b"VAR") {
         return forms::var_line(s);
@@ -35,13 +38,14 @@ fn leaf_line(s: &[u8]) -> Line
         return forms::num_line(s);
     }
     if values::kind(s, b"ENC") {
-        return forms::enc_line(s);
+        return forms::enc_line(names, s);
     }
     Line::NoForm
 }
 
-fn term_line(s: &[u8]) -> Line
-    ensures { λ r. ⌜ r ≡ termLine (now (s .entry)) ⌝ }
+fn term_line(names: &[u8], s: &[u8]) -> Line
+    requires { ⌜ Few (now names) ⌝ }
+    ensures { λ r. ⌜ r ≡ termLine (fields (now (names .entry))) (now (s .entry)) ⌝ }
 {
     if values::kind(s, b"LAM") {
         return forms::lam_line(s);
@@ -52,24 +56,25 @@ fn term_line(s: &[u8]) -> Line
     if values::kind(s, b"OP") {
         return forms::op_line(s);
     }
-    leaf_line(s)
+    leaf_line(names, s)
 }
 
-// What a line enters, and under which number; bytes of any count may be given.
-pub fn read(s: &[u8]) -> Line
-    ensures { λ r. ⌜ r ≡ lineOf (now (s .entry)) ⌝ }
+// What a line enters, and under which number, by the names of a scheme table; bytes of any count may be given.
+pub fn read(names: &[u8], s: &[u8]) -> Line
+    requires { ⌜ Few (now names) ⌝ }
+    ensures { λ r. ⌜ r ≡ lineOf (fields (now (names .entry))) (now (s .entry)) ⌝ }
 {
     if s.len() > 64 {
         return Line::NoForm;
     }
     if values::tag(s, b"T") {
-        return type_line(s);
+        return type_line(names, s);
     }
     if values::tag(s, b"P") {
-        return forms::param_line(s);
+        return forms::param_line(names, s);
     }
     if values::tag(s, b"E") {
-        return term_line(s);
+        return term_line(names, s);
     }
     Line::NoForm
 }

@@ -1,6 +1,7 @@
 // What stands in field k of a line: a number, a word's code, or a given word.
 ghost use mathlib.Core.Path.{_≡_};
-ghost use Rattle.model.specs.Line.{number, literal, qualifier, floor, scheme, operation, kind, tag};
+ghost use Rattle.line.specs.Names.{Few};
+ghost use Rattle.model.specs.Line.{fields, number, literal, qualifier, floor, scheme, operation, kind, tag};
 use crate::fields;
 use crate::numbers;
 use crate::words;
@@ -20,32 +21,35 @@ pub(crate) fn literal(s: &[u8], k: usize) -> Field
     numbers::number_in(fields::field(s, k), 4294967295)
 }
 
-// A qualifier's code: 0 to 70.
-pub(crate) fn qualifier(s: &[u8], k: usize) -> Field
-    ensures { λ r. ⌜ r ≡ qualifier (now (s .entry)) k ⌝ }
+// A qualifier's code.
+pub(crate) fn qualifier(names: &[u8], s: &[u8], k: usize) -> Field
+    requires { ⌜ Few (now names) ⌝ }
+    ensures { λ r. ⌜ r ≡ qualifier (fields (now (names .entry))) (now (s .entry)) k ⌝ }
 {
-    words::qualifier_in(fields::field(s, k))
+    words::qualifier_in(names, fields::field(s, k))
 }
 
 // A parameter's floor, the code of a word: PLAIN in a line of four fields, the last field of five.
-pub(crate) fn floor(s: &[u8]) -> Field
-    ensures { λ r. ⌜ r ≡ floor (now (s .entry)) ⌝ }
+pub(crate) fn floor(names: &[u8], s: &[u8]) -> Field
+    requires { ⌜ Few (now names) ⌝ }
+    ensures { λ r. ⌜ r ≡ floor (fields (now (names .entry))) (now (s .entry)) ⌝ }
 {
     let n = fields::count(s);
     if n == 4 {
         return Field::Value(0);
     }
     if n == 5 {
-        return words::word_in(fields::field(s, 4));
+        return words::word_in(names, fields::field(s, 4));
     }
     Field::NoValue
 }
 
-// A scheme's code: 1 to 6.
-pub(crate) fn scheme(s: &[u8], k: usize) -> Field
-    ensures { λ r. ⌜ r ≡ scheme (now (s .entry)) k ⌝ }
+// A scheme's code, from 1 on.
+pub(crate) fn scheme(names: &[u8], s: &[u8], k: usize) -> Field
+    requires { ⌜ Few (now names) ⌝ }
+    ensures { λ r. ⌜ r ≡ scheme (fields (now (names .entry))) (now (s .entry)) k ⌝ }
 {
-    words::scheme_in(fields::field(s, k))
+    words::scheme_in(names, fields::field(s, k))
 }
 
 // An operation's code: 0 to 4.

@@ -4,6 +4,7 @@ ghost use Prim.Native.Nat.{_+_, _≤_};
 ghost use lib.ListN.{length};
 ghost use Rattle.model.specs.Lists.{same};
 ghost use Rattle.model.specs.Line.{fields};
+ghost use Rattle.line.specs.Names.{Few};
 ghost use Rattle.model.specs.Word.{capital, spells, placeIn, wordOf, variableOf, qualifierOf, schemeOf, operationOf};
 use crate::fields;
 use crate::numbers;
@@ -69,18 +70,23 @@ fn place_in(s: &[u8], words: &[u8], first: u32) -> Field
     Field::NoValue
 }
 
-// One of the seven qualifier words: 0 to 6.
-pub(crate) fn word_in(s: &[u8]) -> Field
-    ensures { λ r. ⌜ r ≡ wordOf (now (s .entry)) ⌝ }
+// A qualifier's word: 0 for PLAIN, then the schemes' names.
+pub(crate) fn word_in(names: &[u8], s: &[u8]) -> Field
+    requires { ⌜ Few (now names) ⌝ }
+    ensures { λ r. ⌜ r ≡ wordOf (fields (now (names .entry))) (now (s .entry)) ⌝ }
 {
-    place_in(s, b"PLAIN,FHE,OP,DET,MH,AH,RAND", 0)
+    if spells(s, b"PLAIN") {
+        return Field::Value(0);
+    }
+    place_in(s, names, 1)
 }
 
-// One of the six schemes: 1 to 6.
-pub(crate) fn scheme_in(s: &[u8]) -> Field
-    ensures { λ r. ⌜ r ≡ schemeOf (now (s .entry)) ⌝ }
+// A scheme's name: 1 for the first.
+pub(crate) fn scheme_in(names: &[u8], s: &[u8]) -> Field
+    requires { ⌜ Few (now names) ⌝ }
+    ensures { λ r. ⌜ r ≡ schemeOf (fields (now (names .entry))) (now (s .entry)) ⌝ }
 {
-    place_in(s, b"FHE,OP,DET,MH,AH,RAND", 1)
+    place_in(s, names, 1)
 }
 
 // One of the five operations: 0 to 4.
@@ -90,9 +96,10 @@ pub(crate) fn operation_in(s: &[u8]) -> Field
     place_in(s, b"ADD,MUL,EQ,LT,GT", 0)
 }
 
-// A named variable, g0 to g63: 7 to 70.
-fn variable_in(s: &[u8]) -> Field
-    ensures { λ r. ⌜ r ≡ variableOf (now (s .entry)) ⌝ }
+// A named variable, g0 to g63: its number after the codes of the words.
+fn variable_in(words: usize, s: &[u8]) -> Field
+    requires { ⌜ words ≤ 49 ⌝ }
+    ensures { λ r. ⌜ r ≡ variableOf words (now (s .entry)) ⌝ }
 {
     if s.len() == 0 {
         return Field::NoValue;
@@ -101,17 +108,18 @@ fn variable_in(s: &[u8]) -> Field
         return Field::NoValue;
     }
     match numbers::number_in(&s[1..], 63) {
-        Field::Value(k) => Field::Value(k + 7),
+        Field::Value(k) => Field::Value(k + words as u32),
         Field::NoValue => Field::NoValue,
     }
 }
 
-// A qualifier: 0 to 6 for the words, 7 to 70 for the named variables.
-pub(crate) fn qualifier_in(s: &[u8]) -> Field
-    ensures { λ r. ⌜ r ≡ qualifierOf (now (s .entry)) ⌝ }
+// A qualifier: one of the words, else a named variable.
+pub(crate) fn qualifier_in(names: &[u8], s: &[u8]) -> Field
+    requires { ⌜ Few (now names) ⌝ }
+    ensures { λ r. ⌜ r ≡ qualifierOf (fields (now (names .entry))) (now (s .entry)) ⌝ }
 {
-    match word_in(s) {
+    match word_in(names, s) {
         Field::Value(c) => Field::Value(c),
-        Field::NoValue => variable_in(s),
+        Field::NoValue => variable_in(fields::count(names) + 1, s),
     }
 }

@@ -8,6 +8,7 @@ use mathlib.Core.Path.{_≡_, refl, ap, _∙_}
 use lib.ListN.{length, getD, set, take, drop, length-set}
 use lib.Seq.{paste-suc, take-all}
 use borrow.Author.Tests.{le-leb, lt-leb}
+use Rattle.scheme.specs.Six.{sixTable}
 use Rattle.model.specs.Line.{lineOf}
 use Rattle.model.specs.declared.Line.{Line}
 use Rattle.line_export.specs.Encoding.{numbers, written, after, Answered}
@@ -48,7 +49,7 @@ module _ (s out : List ℕ) where
   unfolding written after
   read-short h = record { counted = simp (lt-leb 6 (length out) h); left = simp (lt-leb 6 (length out) h) }
 
-  pub read-room : (line : Line) (values out′ : List ℕ) → 6 ≤ length out → length values ≡ 6 → line ≡ lineOf s → values ≡ numbers line →
+  pub read-room : (line : Line) (values out′ : List ℕ) → 6 ≤ length out → length values ≡ 6 → line ≡ lineOf (sixTable .names) s → values ≡ numbers line →
       out′ ≡ values ++ drop (length values) out → Answered s out 6 out′
   unfolding written after
   read-room line values out′ h six l v e =

@@ -5,6 +5,7 @@ use mathlib.Core.List.{List, [], _∷_, _++_}
 use mathlib.Core.Path.{_≡_}
 use lib.Dec.{leb}
 use lib.ListN.{length, drop}
+use Rattle.scheme.specs.Six.{sixTable}
 use Rattle.model.specs.Line.{lineOf}
 use Rattle.model.specs.declared.TypeForm.{TypeForm}
 use Rattle.model.specs.declared.TypeForm.the-variants.{Int, Any, Arrow}
@@ -38,7 +39,7 @@ written out = cond (leb 6 (length out)) 6 0
 
 -- The buffer after the call.
 unfoldable pub after : List ℕ → List ℕ → List ℕ
-after s out = cond (leb 6 (length out)) (numbers (lineOf s) ++ drop 6 out) out
+after s out = cond (leb 6 (length out)) (numbers (lineOf (sixTable .names) s) ++ drop 6 out) out
 
 -- What a call on the bytes s and the buffer out returns, and what it leaves in the buffer.
 pub record Answered (s out : List ℕ) (count : ℕ) (out′ : List ℕ) : Type 0 where

@@ -8,6 +8,9 @@ use model::Line;
 use model::Term;
 use model::TypeForm;
 
+// The names that lines are read with: the built-in six, in the order of their codes.
+const NAMES: [u8; 21] = *b"FHE,OP,DET,MH,AH,RAND";
+
 fn type_numbers(i: u32, form: TypeForm) -> [u32; 6]
     ensures { λ r. ⌜ r ≡ typeNumbers i form ⌝ }
 {
@@ -69,7 +72,7 @@ pub extern "C" fn read_line(s: &[u8], out: &mut [u32]) -> u32
     if out.len() < 6 {
         return 0;
     }
-    let values = line_numbers(line::read(s));
+    let values = line_numbers(line::read(&NAMES, s));
     copy(&values, out);
     6
 }

@@ -8,6 +8,9 @@ use model::Param;
 use model::Term;
 use model::TypeForm;
 
+// The names that lines are read with: the built-in six, in the order of their codes.
+const NAMES: [u8; 21] = *b"FHE,OP,DET,MH,AH,RAND";
+
 fn word(bytes: &[u8]) {
     io::write_all(STDOUT_FILENO, bytes);
 }
@@ -94,7 +97,7 @@ fn end(text: &[u8], from: usize) -> usize
 fn show_line(bytes: &[u8]) {
     word(bytes);
     word(b" = ");
-    show(line::read(bytes));
+    show(line::read(&NAMES, bytes));
     word(b"\n");
 }
 

@@ -11,7 +11,7 @@ use borrow.Author.Tests.{le-leb, lt-leb, leb-true, ne-eqb}
 use Rattle.scheme.proofs.Every.{and-left, and-right}
 use Rattle.model.specs.Lists.{allOf, contains, same}
 use Rattle.model.specs.Number.{isDigit, numberOf}
-use Rattle.model.specs.Word.{qualifierWords, operationWords, capital, capitals, spells, placeIn, wordOf, schemeWords, schemeOf, operationOf}
+use Rattle.model.specs.Word.{qualifierWords, operationWords, capital, capitals, spells, placeIn, wordOf, schemeOf, operationOf}
 use Rattle.model.specs.Line.{onto, fields}
 use Rattle.model.specs.declared.Field.{Field}
 use Rattle.model.specs.declared.Field.the-variants.{Value, NoValue}
@@ -101,13 +101,14 @@ place-capitals : (c : ℕ) (words : List (List ℕ)) (s : List ℕ) → placeIn 
 place-capitals c [] s = refl
 place-capitals c (word ∷ words) s = ap₂ (λ (t : Bool) (later : Field). cond t (Value c) later) (spells-capitals s word) (place-capitals (c + 1) words s)
 
-pub word-capitals : (s : List ℕ) → wordOf (capitals s) ≡ wordOf s
-unfolding wordOf
-word-capitals s = place-capitals 0 qualifierWords s
+module _ (names : List (List ℕ)) where
+  pub word-capitals : (s : List ℕ) → wordOf names (capitals s) ≡ wordOf names s
+  unfolding wordOf
+  word-capitals s = place-capitals 0 (qualifierWords names) s
 
-pub scheme-capitals : (s : List ℕ) → schemeOf (capitals s) ≡ schemeOf s
-unfolding schemeOf
-scheme-capitals s = place-capitals 1 schemeWords s
+  pub scheme-capitals : (s : List ℕ) → schemeOf names (capitals s) ≡ schemeOf names s
+  unfolding schemeOf
+  scheme-capitals s = place-capitals 1 names s
 
 pub operation-capitals : (s : List ℕ) → operationOf (capitals s) ≡ operationOf s
 unfolding operationOf

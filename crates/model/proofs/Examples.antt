@@ -1,5 +1,6 @@
 -- Lines of documents 01 and 02, computed: the number that the definitions give each.
 use Prim.Native.Nat.{ℕ}
+use Rattle.scheme.specs.Six.{sixTable}
 use Prim.Native.String.{String}
 use mathlib.Core.List.{List, [], _∷_, map}
 use mathlib.Core.Path.{_≡_, refl}
@@ -63,6 +64,6 @@ lines-in-turn =
     ∷ ("E,9,lam,1,8", 0)
     ∷ []
 
-lines-are-answered : returned freshMachine (map (λ l. l .0) lines-in-turn) ≡ map (λ l. l .1) lines-in-turn
+lines-are-answered : returned (freshMachine sixTable) (map (λ l. l .0) lines-in-turn) ≡ map (λ l. l .1) lines-in-turn
 unfolding returned adding lines-in-turn
 lines-are-answered = refl

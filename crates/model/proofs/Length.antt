@@ -7,7 +7,8 @@ use mathlib.Core.Path.{_≡_, refl}
 use lib.Dec.{leb}
 use lib.ListN.{length, getD, length-append}
 use borrow.Author.Tests.{leb-true}
-use Rattle.scheme.proofs.Every.{every, every-at, and-left, and-right}
+use Rattle.scheme.proofs.Every.{every, every-at, and-left, and-right, and-both}
+use Rattle.scheme.specs.Schemes.{words}
 use Rattle.model.specs.Lists.{allOf, bytes}
 use Rattle.model.specs.Number.{decimal}
 use Rattle.model.specs.Word.{qualifierWords, qualifierWord}
@@ -38,9 +39,9 @@ longest [] c h = omega arith
 longest (w ∷ ws) zero h = leb-true _ _ (and-left _ (allOf (λ w. leb (length w) 5) ws) h)
 longest (w ∷ ws) (suc c) h = longest ws c (and-right (leb (length w) 5) _ h)
 
-qualifier-word-length : (c : ℕ) → length (qualifierWord c) ≤ 5
+qualifier-word-length : (m : Machine) → Within m → (c : ℕ) → length (qualifierWord (m .schemes .names) c) ≤ 5
 unfolding qualifierWord
-qualifier-word-length c = longest qualifierWords c refl
+qualifier-word-length m w c = longest (qualifierWords (m .schemes .names)) c (and-both _ _ refl (w .names))
 
 shape-word-length : (shape : Shape) → length (shapeWord shape) ≤ 5
 unfolding shapeWord
@@ -74,22 +75,22 @@ rows-total : total (λ i. 15 + length (decimal i)) 0 256 ≡ 4498
 unfolding decimal total
 rows-total = refl
 
-module _ (m : Machine) (word : Slot → ℕ) (shape : Slot → Shape) where
+module _ (m : Machine) (w : Within m) (word : Slot → ℕ) (shape : Slot → Shape) where
   variable-line-length : (k : ℕ) → length (variableLine m word shape k) ≤ 9 + length (decimal k)
   unfolding variableLine line
-  variable-line-length k = go (mentions m (k + 7))
+  variable-line-length k = go (mentions m (k + words (m .schemes)))
     where
-      go : (b : Bool) → length (cond b (line (bytes "G" ∷ decimal k ∷ qualifierWord (word (variable k)) ∷ [])) []) ≤ 9 + length (decimal k)
-      go true = simp length-append (omega (arith, qualifier-word-length (word (variable k))))
+      go : (b : Bool) → length (cond b (line (bytes "G" ∷ decimal k ∷ qualifierWord (m .schemes .names) (word (variable k)) ∷ [])) []) ≤ 9 + length (decimal k)
+      go true = simp length-append (omega (arith, qualifier-word-length m w (word (variable k))))
       go false = omega arith
 
   param-line-length : (p : ℕ) → length (paramLine m word shape p) ≤ 15 + length (decimal p)
   unfolding paramLine line
-  param-line-length p = simp length-append (omega (arith, qualifier-word-length (word (param p)), shape-word-length (shape (param p))))
+  param-line-length p = simp length-append (omega (arith, qualifier-word-length m w (word (param p)), shape-word-length (shape (param p))))
 
   row-line-length : (i : ℕ) → length (rowLine m word shape i) ≤ 15 + length (decimal i)
   unfolding rowLine line
-  row-line-length i = simp length-append (omega (arith, qualifier-word-length (word (row i)), shape-word-length (shape (row i))))
+  row-line-length i = simp length-append (omega (arith, qualifier-word-length m w (word (row i)), shape-word-length (shape (row i))))
 
   variables-length : length (lines (variableLine m word shape) 0 64) ≤ 694
   variables-length = omega (arith, lines-bounded (variableLine m word shape) (λ k. 9 + length (decimal k)) 0 64 variable-line-length, variables-total)
@@ -100,9 +101,9 @@ module _ (m : Machine) (word : Slot → ℕ) (shape : Slot → Shape) where
   rows-length : (n : ℕ) → n ≤ 256 → length (lines (rowLine m word shape) 0 n) ≤ 4498
   rows-length n h = omega (arith, lines-bounded (rowLine m word shape) (λ i. 15 + length (decimal i)) 0 n row-line-length, total-more (λ i. 15 + length (decimal i)) 0 n 256 h, rows-total)
 
-  pub report-length : Within m → length (report m word shape) ≤ 6280
+  pub report-length : length (report m word shape) ≤ 6280
   unfolding report line
-  report-length w =
+  report-length =
       simp length-append
       (omega (
         arith,

@@ -8,6 +8,7 @@ use mathlib.Core.Path.{_≡_, refl, sym, ap, subst, _∙_}
 use lib.ListN.{length, take, drop, length-take, length-drop}
 use lib.Seq.{take-all, take-take}
 use borrow.Author.Tests.{lt-leb}
+use Rattle.scheme.specs.Schemes.{Sound}
 use Rattle.model.specs.Lists.{same, lengthBefore, bytes}
 use Rattle.model.specs.Number.{decimal}
 use Rattle.model.specs.Line.{choose, lineOf}
@@ -29,13 +30,13 @@ unfolding entered settled
 no-form-entered m = refl
 
 -- "line longer than 64 bytes"
-long-no-form : (s : List ℕ) → 64 < length s → lineOf s ≡ NoForm
+long-no-form : (names : List (List ℕ)) (s : List ℕ) → 64 < length s → lineOf names s ≡ NoForm
 unfolding lineOf choose
-long-no-form s h = simp (lt-leb (length s) 64 h)
+long-no-form names s h = simp (lt-leb (length s) 64 h)
 
 long-entered : (m : Machine) (s : List ℕ) → 64 < length s → added m s ≡ record { number = 1; machine = m }
 unfolding added
-long-entered m s h = ap (entered m) (long-no-form s h) ∙ no-form-entered m
+long-entered m s h = ap (entered m) (long-no-form (m .schemes .names) s h) ∙ no-form-entered m
 
 pub long-refused : (m : Machine) (s : List ℕ) → 64 < length s → added m s .number ≡ 1
 long-refused m s h = ap (λ (c : Change). c .number) (long-entered m s h)
@@ -88,12 +89,12 @@ module _ (m : Machine) where
 begins-front : (word s : List ℕ) (n : ℕ) → length word ≤ n → begins word (take n s) ≡ begins word s
 begins-front word s n h = ap (λ (t : List ℕ). same t word) (take-take (length word) n s h)
 
-pub reply-front : {m : Machine} {s w : List ℕ} {after : Machine} → Replies m (take 69 s) w after → Replies m s w after
-reply-front {m} {s} {w} {after} r = by (decLe (length s) 69)
+pub reply-front : {m : Machine} {s w : List ℕ} {after : Machine} → Sound (m .schemes) → Replies m (take 69 s) w after → Replies m s w after
+reply-front {m} {s} {w} {after} sound r = by (decLe (length s) 69)
   where
     by : Dec (length s ≤ 69) → Replies m s w after
     by (yes short) = rw (take-all 69 s short) at r
     by (no long) =
         let front : 68 < length (take 69 s) = simp length-take (omega arith) in
-        let same = replies-same r (long-reply m (take 69 s) front) in
+        let same = replies-same sound r (long-reply m (take 69 s) front) in
         rw (same .0, same .1, begins-front (bytes "add ") s 69 (omega arith)) (long-reply m s (omega arith))

@@ -32,7 +32,7 @@ entered-most m NoForm = omega arith
 
 pub added-most : (m : Machine) (s : List ℕ) → added m s .number ≤ 8
 unfolding added
-added-most m s = entered-most m (lineOf s)
+added-most m s = entered-most m (lineOf (m .schemes .names) s)
 
 pub redeclared-most : (m : Machine) (p code : ℕ) → redeclared m p code .number ≤ 12
 unfolding redeclared settled

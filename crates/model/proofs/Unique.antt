@@ -7,10 +7,11 @@ use mathlib.Core.List.{List, [], _∷_, _++_}
 use mathlib.Core.Path.{_≡_, refl, sym, ap, ap₂, subst, _∙_}
 use lib.ListN.{length, drop}
 use Rattle.model.specs.Machine.{Machine, added, redeclared, takenBack}
+use Rattle.scheme.specs.Schemes.{words}
 use Rattle.model.specs.Closed.{Closed}
 use Rattle.model.specs.Typing.{Ty, Assignment, Typing, Typable}
-use Rattle.model.specs.Strength.{Schemes, whole, unordered, erased, six}
-use Rattle.model.specs.Inference.{Cause, shapes, qualifiers, bounds, Refusal, Slot, variable, param, row, Listed, qualifierOf, typeOf, IsInt, is-int, IsArrow, is-arrow, Shape, Types, ShapeSays, GreatestTyping, MeetsFloor, WordMeetsFloor, FloorsMet, FloorMissed, Judged, not-closed, not-typable, below-floor, typed, mentions}
+use Rattle.model.specs.Strength.{Schemes, whole, unordered, erased}
+use Rattle.model.specs.Inference.{ruling, Cause, shapes, qualifiers, bounds, Refusal, Slot, variable, param, row, Listed, qualifierOf, typeOf, IsInt, is-int, IsArrow, is-arrow, Shape, Types, ShapeSays, GreatestTyping, MeetsFloor, WordMeetsFloor, FloorsMet, FloorMissed, Judged, not-closed, not-typable, below-floor, typed, mentions}
 use Rattle.model.specs.Report.{report, lines, variableLine, paramLine, rowLine}
 use Rattle.model.proofs.Fewer.{typable-fewer}
 use Rattle.model.proofs.Weaker.{weaker-rules, whole-unordered, unordered-erased}
@@ -42,13 +43,13 @@ module _ (S : Schemes) (m : Machine) where
       go (yes h) = absurd (r .none (r′ .before k h))
       go (no h) = omega arith
 
-  refusal-same : {n n′ k k′ : ℕ} → Refusal S m n k → Refusal S m n′ k′ → (n ≡ n′) × (k ≡ k′)
+  pub refusal-same : {n n′ k k′ : ℕ} → Refusal S m n k → Refusal S m n′ k′ → (n ≡ n′) × (k ≡ k′)
   refusal-same {n} {n′} {k} {k′} r r′ =
       let e : k ≡ k′ = omega (arith, not-later r r′, not-later r′ r) in
       (cause-same S m (k + 1) (r .cause) (subst (λ (j : ℕ). Cause S m (j + 1) n′) (sym e) (r′ .cause)), e)
 
   -- A program that has a typing is refused at no row.
-  typed-not-refused : {word : Slot → ℕ} {shape : Slot → Shape} {n k : ℕ} → GreatestTyping S m word shape → Refusal S m n k → ⊥
+  pub typed-not-refused : {word : Slot → ℕ} {shape : Slot → Shape} {n k : ℕ} → GreatestTyping S m word shape → Refusal S m n k → ⊥
   typed-not-refused a r = r .none (typable-fewer {k = length (m .terms)} (omega (arith, r .in-list)) (a .together .0, a .together .1))
 
 arrow-only : {Q : Type 0} → Ty Q → Type 0
@@ -149,12 +150,12 @@ lines-same f g i zero h = refl
 lines-same f g i (suc n) h = ap₂ _++_ (h i (omega arith) (omega arith)) (lines-same f g (i + 1) n (λ k low high. h k (omega arith) (omega arith)))
 
 -- A report says no more than the words and shapes of its slots.
-module _ (m : Machine) {word word′ : Slot → ℕ} {shape shape′ : Slot → Shape} (w : (x : Slot) → Listed six m x → word x ≡ word′ x) (h : (x : Slot) → Listed six m x → shape x ≡ shape′ x) where
+module _ (m : Machine) {word word′ : Slot → ℕ} {shape shape′ : Slot → Shape} (w : (x : Slot) → Listed (ruling m) m x → word x ≡ word′ x) (h : (x : Slot) → Listed (ruling m) m x → shape x ≡ shape′ x) where
   variable-same : (k : ℕ) → k < 64 → variableLine m word shape k ≡ variableLine m word′ shape′ k
   unfolding variableLine
-  variable-same k below = go (mentions m (k + 7)) refl
+  variable-same k below = go (mentions m (k + words (m .schemes))) refl
     where
-      go : (b : Bool) → mentions m (k + 7) ≡ b → variableLine m word shape k ≡ variableLine m word′ shape′ k
+      go : (b : Bool) → mentions m (k + words (m .schemes)) ≡ b → variableLine m word shape k ≡ variableLine m word′ shape′ k
       go true e = let same = w (variable k) (below, e) in simp (e, same)
       go false e = simp e
 

@@ -10,9 +10,13 @@ use Rattle.model.specs.Lists.{anyOf, contains}
 use Rattle.model.specs.Machine.{Machine, paramAt}
 use Rattle.model.specs.Closed.{Closed}
 use Rattle.model.specs.Typing.{Ty, Assignment, Typing, Typable}
-use Rattle.model.specs.Strength.{Schemes, whole, unordered, erased}
+use Rattle.model.specs.Strength.{Schemes, whole, unordered, erased, schemesOf}
 use Rattle.model.specs.declared.TypeForm.{TypeForm}
 use Rattle.model.specs.declared.TypeForm.the-variants.{Int, Any, Arrow}
+
+-- The schemes of the machine's table, which rule its typings.
+abbrev pub ruling : Machine → Schemes
+ruling m = schemesOf (m .schemes)
 
 -- "it is 21 if none exists even when all qualifiers are ignored; else 22 if none exists even when "at or below" in OP is dropped; else 23"
 pub data Cause (S : Schemes) (m : Machine) (k : ℕ) : ℕ → Type 0 where

@@ -3,6 +3,7 @@ pub mod Number
 pub mod Word
 pub mod Line
 pub mod Machine
+pub mod SchemeFile
 pub mod Closed
 pub mod WellFormed
 pub mod Typing

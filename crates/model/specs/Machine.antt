@@ -1,11 +1,12 @@
 -- The machine of the four calls, and the three calls that change it.
 -- Document 01, "The four calls".
-use Prim.Native.Nat.{ℕ, _-_}
+use Prim.Native.Nat.{ℕ, _+_, _-_}
 use mathlib.Core.Bool.{Bool, true, false, not, cond, _&&_, _||_}
 use mathlib.Core.List.{List, [], _∷_, _++_}
-use lib.Dec.{eqb, ltb, leb}
+use lib.Dec.{eqb, ltb}
 use lib.ListN.{length, getD, take, set}
 use Rattle.model.specs.Lists.{anyOf, allOf, contains}
+use Rattle.scheme.specs.Schemes.{SchemeTable, words}
 use Rattle.model.specs.Line.{lineOf}
 use Rattle.model.specs.declared.TypeForm.{TypeForm}
 use Rattle.model.specs.declared.TypeForm.the-variants.{Int, Any, Arrow}
@@ -18,14 +19,16 @@ use Rattle.model.specs.declared.Line.{Line}
 use Rattle.model.specs.declared.Line.the-variants.{TypeLine, ParamLine, TermLine, NoForm}
 
 -- "The machine they follow is three lists: type rows, parameters, term rows."
+-- Document 02, d): "The fresh machine now holds the accepted scheme table beside its lists, and no call changes it."
 pub record Machine : Type 0 where
+  pub schemes : SchemeTable
   pub types : List TypeRow
   pub params : List Param
   pub terms : List TermRow
 
 -- "Fresh: all empty."
-abbrev pub freshMachine : Machine
-freshMachine = record { types = []; params = []; terms = [] }
+abbrev pub freshMachine : SchemeTable → Machine
+freshMachine T = record { schemes = T; types = []; params = []; terms = [] }
 
 -- Entries that stand for nothing: what a list has past its end, where none is asked for.
 abbrev pub noTypeRow : TypeRow
@@ -149,31 +152,31 @@ settled m number after = record { number = number; machine = cond (eqb number 0)
 -- "appends one entry to its list"; 1: none of the forms.
 unfoldable pub entered : Machine → Line → Change
 entered m (TypeLine i form) =
-    settled m (typeRefusal m i form) (record { types = m .types ++ (record { form = form } ∷ []); params = m .params; terms = m .terms })
+    settled m (typeRefusal m i form) (record { schemes = m .schemes; types = m .types ++ (record { form = form } ∷ []); params = m .params; terms = m .terms })
 entered m (ParamLine p param) =
-    settled m (paramRefusal m p param) (record { types = m .types; params = m .params ++ (param ∷ []); terms = m .terms })
+    settled m (paramRefusal m p param) (record { schemes = m .schemes; types = m .types; params = m .params ++ (param ∷ []); terms = m .terms })
 entered m (TermLine i term) =
-    settled m (termRefusal m i term) (record { types = m .types; params = m .params; terms = m .terms ++ (record { term = term } ∷ []) })
+    settled m (termRefusal m i term) (record { schemes = m .schemes; types = m .types; params = m .params; terms = m .terms ++ (record { term = term } ∷ []) })
 entered m NoForm = settled m 1 m
 
 -- **Add** (a line).
 unfoldable pub added : Machine → List ℕ → Change
-added m line = entered m (lineOf line)
+added m line = entered m (lineOf (m .schemes .names) line)
 
 -- "replaces that parameter's qualifier"; document 02, a), of the floor: "redeclare leaves it".
 abbrev pub withQualifier : ℕ → Param → Param
 withQualifier code param = record { qualifier = code; floor = param .floor; typerow = param .typerow }
 
--- **Redeclare** (parameter, code 0 to 70); "redeclare 5, then 12".
+-- **Redeclare** (parameter, code); "redeclare 5, then 12"; document 02, d): "12 is for a code above the last variable's".
 unfoldable pub redeclared : Machine → ℕ → ℕ → Change
 redeclared m p code =
     settled m
-    (firstFailing ((5, ltb p (length (m .params))) ∷ (12, leb code 70) ∷ []))
-    (record { types = m .types; params = set (m .params) p (withQualifier code (paramAt m p)); terms = m .terms })
+    (firstFailing ((5, ltb p (length (m .params))) ∷ (12, ltb code (words (m .schemes) + 64)) ∷ []))
+    (record { schemes = m .schemes; types = m .types; params = set (m .params) p (withQualifier code (paramAt m p)); terms = m .terms })
 
 -- **Take-back**: "drops the last term row"; 9 with no term row.
 unfoldable pub takenBack : Machine → Change
 takenBack m =
     settled m
     (firstFailing ((9, ltb 0 (length (m .terms))) ∷ []))
-    (record { types = m .types; params = m .params; terms = take (length (m .terms) - 1) (m .terms) })
+    (record { schemes = m .schemes; types = m .types; params = m .params; terms = take (length (m .terms) - 1) (m .terms) })

@@ -6,12 +6,13 @@ use mathlib.Core.List.{List, [], _∷_, _++_}
 use mathlib.Core.Path.{_≡_}
 use lib.Dec.{eqb}
 use lib.ListN.{length, take, drop}
+use Rattle.scheme.specs.Six.{sixTable}
 use Rattle.model.specs.Lists.{same, lengthBefore, bytes}
 use Rattle.model.specs.Number.{numberOf, decimal}
 use Rattle.model.specs.Machine.{Machine, freshMachine}
 use Rattle.model.specs.Report.{line}
 use Rattle.model.specs.Session.{Call, Outcome, Answers, Session}
-use Rattle.model.specs.Text.{linesOf}
+use Rattle.model.specs.Line.{linesOf}
 use Rattle.model.specs.declared.Field.{Field}
 use Rattle.model.specs.declared.Field.the-variants.{Value, NoValue}
 
@@ -86,7 +87,7 @@ pub data Transcript : List (List ℕ) → List (Call × Outcome) → List ℕ �
 -- A whole script: its calls and what they returned are a list of demand 3, from a fresh machine, and the answers are those of its lines.
 pub record Conversation (script answers : List ℕ) : Type 0 where
   pub trace : List (Call × Outcome)
-  pub session : Session freshMachine trace
+  pub session : Session (freshMachine sixTable) trace
   pub transcript : Transcript (linesOf script) trace answers
 
 -- The largest number that the entry for scripts can return.

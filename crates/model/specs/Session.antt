@@ -5,8 +5,7 @@ use mathlib.Core.List.{List, [], _∷_, _++_}
 use mathlib.Core.Path.{_≡_}
 use lib.ListN.{length, drop}
 use Rattle.model.specs.Machine.{Machine, Change, added, redeclared, takenBack}
-use Rattle.model.specs.Strength.{six}
-use Rattle.model.specs.Inference.{Slot, Shape, Judged}
+use Rattle.model.specs.Inference.{ruling, Slot, Shape, Judged}
 use Rattle.model.specs.Report.{report}
 
 -- The four calls: a line's bytes; a parameter and a code; nothing; a report buffer's bytes.
@@ -39,9 +38,9 @@ reporting text buffer = record { number = 0; row = 0; size = length text; buffer
 pub data Infers (m : Machine) (buffer : List ℕ) : Outcome → Type 0 where
   short : length buffer < 6280 → Infers m buffer (refusing 11 0 buffer)
   refused : {number k : ℕ} {word : Slot → ℕ} {shape : Slot → Shape} →
-      6280 ≤ length buffer → Judged six m number k word shape → ¬ (number ≡ 0) → Infers m buffer (refusing number k buffer)
+      6280 ≤ length buffer → Judged (ruling m) m number k word shape → ¬ (number ≡ 0) → Infers m buffer (refusing number k buffer)
   accepted : {word : Slot → ℕ} {shape : Slot → Shape} →
-      6280 ≤ length buffer → Judged six m 0 0 word shape → Infers m buffer (reporting (report m word shape) buffer)
+      6280 ≤ length buffer → Judged (ruling m) m 0 0 word shape → Infers m buffer (reporting (report m word shape) buffer)
 
 -- One call on a machine: what it returns, and the machine after it.
 pub data Answers (m : Machine) : Call → Outcome → Machine → Type 0 where

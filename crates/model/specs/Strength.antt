@@ -4,8 +4,9 @@ use Prim.Native.Nat.{ℕ}
 use mathlib.Core.Bool.{true}
 use mathlib.Core.Path.{_≡_}
 use Rattle.scheme.specs.Qualifier.{Qualifier, qualifier, code}
-use Rattle.scheme.specs.Order.{atOrBelow}
-use Rattle.scheme.specs.Operation.{highestOf}
+use Rattle.scheme.specs.Schemes.{SchemeTable, words, below, highestOf}
+use Rattle.scheme.specs.Six.{sixTable}
+use lib.ListN.{length}
 use Rattle.model.specs.Typing.{Rules}
 
 -- A set of qualifiers with their words, their order, and each operation's highest scheme.
@@ -28,13 +29,17 @@ unordered S = record { Q = S .Q; words = S .words; word = S .word; Fits = λ o q
 abbrev pub erased : Schemes → Rules
 erased S = record { Q = Unit {0}; words = S .words; word = λ c. tt; Fits = λ o q. Unit {0} }
 
--- PLAIN and the six schemes.
-abbrev pub six : Schemes
-six =
+-- PLAIN and the schemes of a table.
+abbrev pub schemesOf : SchemeTable → Schemes
+schemesOf T =
     record {
-      Q = Qualifier;
-      words = 7;
-      word = qualifier;
-      AtOrBelow = λ q r. atOrBelow (code q) (code r) ≡ true;
-      highest = λ o. qualifier (highestOf o);
+      Q = Qualifier (length (T .names));
+      words = words T;
+      word = qualifier (length (T .names));
+      AtOrBelow = λ q r. below T (code q) (code r) ≡ true;
+      highest = λ o. qualifier (length (T .names)) (highestOf T o);
     }
+
+-- PLAIN and the built-in six.
+abbrev pub six : Schemes
+six = schemesOf sixTable

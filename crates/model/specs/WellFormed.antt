@@ -1,10 +1,11 @@
 -- Well-formed machines: what the checks of an add leave true of every row that stands.
 -- No sentence of document 01 names this; it follows from the reader and the checks 3 to 8, and inference rests on it.
-use Prim.Native.Nat.{ℕ, _≤_, _<_}
+use Prim.Native.Nat.{ℕ, _+_, _≤_, _<_}
 use mathlib.Core.Bool.{true}
 use mathlib.Core.List.{List, [], _∷_}
 use mathlib.Core.Path.{_≡_}
 use lib.ListN.{length}
+use Rattle.scheme.specs.Schemes.{words, Sound}
 use Rattle.model.specs.Lists.{contains}
 use Rattle.model.specs.Machine.{Machine, typeAt, paramAt, termAt, children, binds}
 use Rattle.model.specs.declared.TypeForm.{TypeForm}
@@ -13,32 +14,33 @@ use Rattle.model.specs.declared.Param.{Param}
 use Rattle.model.specs.declared.Term.{Term}
 use Rattle.model.specs.declared.Term.the-variants.{Lam, App, Op, Var, Num, Enc}
 
--- A type row names rows below its own number, and qualifiers by codes up to 70.
-abbrev pub TypeStands : ℕ → TypeForm → Type 0
-TypeStands i Int = Unit {0}
-TypeStands i Any = Unit {0}
-TypeStands i (Arrow q t q′ t′) = (q ≤ 70) × (t < i) × (q′ ≤ 70) × (t′ < i)
+-- A type row names rows below its own number, and qualifiers by codes of w words and 64 variables.
+abbrev pub TypeStands : ℕ → ℕ → TypeForm → Type 0
+TypeStands w i Int = Unit {0}
+TypeStands w i Any = Unit {0}
+TypeStands w i (Arrow q t q′ t′) = (q < w + 64) × (t < i) × (q′ < w + 64) × (t′ < i)
 
--- A parameter has a qualifier by a code up to 70, a type row that is declared, and a floor that is a word.
-abbrev pub ParamStands : ℕ → Param → Type 0
-ParamStands types param = (param .qualifier ≤ 70) × (param .typerow < types) × (param .floor ≤ 6)
+-- A parameter has a qualifier by such a code, a type row that is declared, and a floor that is a word.
+abbrev pub ParamStands : ℕ → ℕ → Param → Type 0
+ParamStands w types param = (param .qualifier < w + 64) × (param .typerow < types) × (param .floor < w)
 
--- A term row names rows below its own number, parameters that are declared, one of the five operations, one of the six schemes.
-abbrev pub TermStands : ℕ → ℕ → Term → Type 0
-TermStands params i (Lam p b) = (p < params) × (b < i)
-TermStands params i (App f a) = (f < i) × (a < i)
-TermStands params i (Op o l r) = (o < 5) × (l < i) × (r < i)
-TermStands params i (Var p) = p < params
-TermStands params i (Num n) = Unit {0}
-TermStands params i (Enc s n) = (1 ≤ s) × (s ≤ 6)
+-- A term row names rows below its own number, parameters that are declared, one of the five operations, one of the schemes.
+abbrev pub TermStands : ℕ → ℕ → ℕ → Term → Type 0
+TermStands w params i (Lam p b) = (p < params) × (b < i)
+TermStands w params i (App f a) = (f < i) × (a < i)
+TermStands w params i (Op o l r) = (o < 5) × (l < i) × (r < i)
+TermStands w params i (Var p) = p < params
+TermStands w params i (Num n) = Unit {0}
+TermStands w params i (Enc s n) = (1 ≤ s) × (s < w)
 
 pub record WellFormed (m : Machine) : Type 0 where
+  pub schemes-sound : Sound (m .schemes)
   pub types-fit : length (m .types) ≤ 64
   pub params-fit : length (m .params) ≤ 64
   pub terms-fit : length (m .terms) ≤ 256
-  pub types-stand : (t : ℕ) → t < length (m .types) → TypeStands t (typeAt m t)
-  pub params-stand : (p : ℕ) → p < length (m .params) → ParamStands (length (m .types)) (paramAt m p)
-  pub terms-stand : (i : ℕ) → i < length (m .terms) → TermStands (length (m .params)) i (termAt m i)
+  pub types-stand : (t : ℕ) → t < length (m .types) → TypeStands (words (m .schemes)) t (typeAt m t)
+  pub params-stand : (p : ℕ) → p < length (m .params) → ParamStands (words (m .schemes)) (length (m .types)) (paramAt m p)
+  pub terms-stand : (i : ℕ) → i < length (m .terms) → TermStands (words (m .schemes)) (length (m .params)) i (termAt m i)
   -- no two rows have a child in common, and no row has one twice; no two LAMs bind one parameter
   pub one-parent : (i j c : ℕ) → i < length (m .terms) → j < length (m .terms) →
       contains c (children (termAt m i)) ≡ true → contains c (children (termAt m j)) ≡ true → i ≡ j

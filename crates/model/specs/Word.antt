@@ -1,18 +1,18 @@
 -- The words of a line and of the report, with their codes.
--- Document 01, "Schemes and their order" and "Lines and the table"; document 02, a) and c).
+-- Document 01, "Schemes and their order" and "Lines and the table"; document 02, a), c) and d).
 use Prim.Native.Nat.{ℕ, _+_, _-_}
 use mathlib.Core.Bool.{Bool, true, false, _&&_, cond}
 use mathlib.Core.List.{List, [], _∷_, map}
 use lib.Dec.{eqb, leb}
-use lib.ListN.{getD}
+use lib.ListN.{length, getD}
 use Rattle.model.specs.Lists.{same, bytes}
 use Rattle.model.specs.Number.{numberOf}
 use Rattle.model.specs.declared.Field.{Field}
 use Rattle.model.specs.declared.Field.the-variants.{Value, NoValue}
 
--- "A qualifier is PLAIN, FHE, OP, DET, MH, AH or RAND; codes 0 to 6 in that order."
-abbrev pub qualifierWords : List (List ℕ)
-qualifierWords = bytes "PLAIN" ∷ bytes "FHE" ∷ bytes "OP" ∷ bytes "DET" ∷ bytes "MH" ∷ bytes "AH" ∷ bytes "RAND" ∷ []
+-- "Qualifier words in lines and codes in redeclare follow the file": PLAIN, then the schemes' names.
+abbrev pub qualifierWords : List (List ℕ) → List (List ℕ)
+qualifierWords names = bytes "PLAIN" ∷ names
 
 -- "`o` one of the five operations"
 abbrev pub operationWords : List (List ℕ)
@@ -40,34 +40,31 @@ abbrev pub orElse : Field → Field → Field
 orElse (Value n) other = Value n
 orElse NoValue other = other
 
--- "a named qualifier variable (code 7 + its number)"
-abbrev pub variableCode : Field → Field
-variableCode (Value k) = Value (k + 7)
-variableCode NoValue = NoValue
+-- "a named qualifier variable": its code is its number and the number of words, "variables after them".
+abbrev pub variableCode : ℕ → Field → Field
+variableCode n (Value k) = Value (k + n)
+variableCode n NoValue = NoValue
 
--- "`g0` to `g63`"
-abbrev pub variableOf : List ℕ → Field
-variableOf [] = NoValue
-variableOf (b ∷ bs) = cond (eqb b 103) (variableCode (numberOf 63 bs)) NoValue
+-- "`g0` to `g63`", after n words
+abbrev pub variableOf : ℕ → List ℕ → Field
+variableOf n [] = NoValue
+variableOf n (b ∷ bs) = cond (eqb b 103) (variableCode n (numberOf 63 bs)) NoValue
 
--- Document 02, a): "one of the seven qualifier words".
-unfoldable pub wordOf : List ℕ → Field
-wordOf s = placeIn 0 qualifierWords s
+-- Document 02, a): "one of the .. qualifier words".
+unfoldable pub wordOf : List (List ℕ) → List ℕ → Field
+wordOf names s = placeIn 0 (qualifierWords names) s
 
 -- "`q` is a qualifier word or `g0` to `g63`"
-unfoldable pub qualifierOf : List ℕ → Field
-qualifierOf s = orElse (wordOf s) (variableOf s)
+unfoldable pub qualifierOf : List (List ℕ) → List ℕ → Field
+qualifierOf names s = orElse (wordOf names s) (variableOf (length (qualifierWords names)) s)
 
--- "`s` one of the six schemes": a qualifier word that is not PLAIN.
-abbrev pub schemeWords : List (List ℕ)
-schemeWords = bytes "FHE" ∷ bytes "OP" ∷ bytes "DET" ∷ bytes "MH" ∷ bytes "AH" ∷ bytes "RAND" ∷ []
-
-unfoldable pub schemeOf : List ℕ → Field
-schemeOf s = placeIn 1 schemeWords s
+-- "`s` one of the .. schemes": a qualifier word that is not PLAIN.
+unfoldable pub schemeOf : List (List ℕ) → List ℕ → Field
+schemeOf names s = placeIn 1 names s
 
 unfoldable pub operationOf : List ℕ → Field
 operationOf s = placeIn 0 operationWords s
 
--- The word of a qualifier's code, as the report has it. No code above 6 is asked for.
-unfoldable pub qualifierWord : ℕ → List ℕ
-qualifierWord c = getD qualifierWords c []
+-- The word of a qualifier's code, as the report has it. No code past the words is asked for.
+unfoldable pub qualifierWord : List (List ℕ) → ℕ → List ℕ
+qualifierWord names c = getD (qualifierWords names) c []

@@ -30,10 +30,8 @@ use denote.Struct.Steps.{spelt}
 use denote.Struct.Laws as LL
 use denote.Triple.Statement.{Contract, Triple}
 use denote.Triple.Call.{calls-at}
-use Rattle.model.specs.Machine.{Change}
 use Rattle.table.specs.declared.Table.{Table}
 use Rattle.table.specs.declared.Answered.{Answered}
-use Rattle.table.specs.Lists.{change}
 use Rattle.table.proofs.Table as T
 use Rattle.table.proofs.Table.Laws as T′
 use Rattle.table.proofs.Answered as R
@@ -100,18 +98,18 @@ module _ {M : Type 1} {𝓤 : URA M} {H : Heap 𝓤} {A : Atoms 𝓤} {K : Type 
       → Step K W (Tok ∷ ‵ (owns Ts a vss) ∷ ‵ (owns Ts a vss) ∷ Γ) G (Tok ∷ ‵ (fsep (T.the-row .own h (table-vals h)) (owns Ts a vss)) ∷ Γ) G
   enters t h Ts copies a vss = step (λ s. move t (1 ∷ []) $ fsplit t $ drop t $ use1 W (‵ (owns Ts a vss) ⊛ ‵ (owns Ts a vss)) (twices 𝓤 H A W Ts copies a vss) $ split t $ move t (2 ∷ []) $ s)
 
-  -- the body up to its `return`. c is the contract of the call that is lent the table: at the lifetime α and the name γ it is asked at x α γ, and says `after`
+  -- the body up to its `return`. c is the contract of the call that is lent the table: at the lifetime α and the name γ it is asked at x α γ, and says `Says`
   pub changes : K → {Γ : List (Item 𝓤)} {E : Env 𝓤 H} {C : Calls 𝓤 H} {Λ : Loops 𝓤 H} {Q : Post 𝓤 H} {Args : Fml} {g : Name} {xs : List Operand} {vs : List Val} {l₀ l₁ l₂ l₃ l₄ l₅ i j k m : ℕ}
       → (h : Table) → Is T.the-row h (table-vals h) → FmC 𝓤 H (W .laws) C → (c : Contract 𝓤) → Triple 𝓤 (C g) c → (x : ℕ → GName → c .Ghost)
       → ((α : ℕ) (γ : GName) → ent 𝓤 (sep 𝓤 (sep 𝓤 (sep 𝓤 (A .lft (α ∷ []) fullShare) (mean 𝓤 H A Tok)) (sem 𝓤 H A (fsep (reference 𝓤 H A (α ∷ []) fullShare γ l₂ 0 h) Args))) (emp 𝓤)) (c .pre (x α γ)))
-      → {X : Type 0} (said : X → Fml) (after : Change)
-      → ((α : ℕ) (γ : GName) (v : Val) → ent 𝓤 (c .post (x α γ) v) (mean 𝓤 H A (later (some (λ (n : ℕ). ((‵ (flft (α ∷ []) fullShare) ⊛ Tok) ⊛ ‵ (u16 .own n (v ∷ []))) ⊛ some (λ (w : Table × X). ‵ (fsep (fres γ (T.the-row .coded .code (w .0))) (said (w .1))) ⊛ raw (fact 𝓤 (change (left (w .0) n) ≡ after))))))))
+      → {X : Type 0} (said : X → Fml) (Says : Answered → Type 0)
+      → ((α : ℕ) (γ : GName) (v : Val) → ent 𝓤 (c .post (x α γ) v) (mean 𝓤 H A (later (some (λ (n : ℕ). ((‵ (flft (α ∷ []) fullShare) ⊛ Tok) ⊛ ‵ (u16 .own n (v ∷ []))) ⊛ some (λ (w : Table × X). ‵ (fsep (fres γ (T.the-row .coded .code (w .0))) (said (w .1))) ⊛ raw (fact 𝓤 (Says (left (w .0) n)))))))))
       → spotOf 𝓤 H E 0 ≡ (R′.mir, l₀, 0) → spotOf 𝓤 H E 1 ≡ (T′.mir, l₁, 0) → spotOf 𝓤 H E i ≡ (T′.mir, l₂, 0) → spotOf 𝓤 H E j ≡ (tyInt w16, l₃, 0) → spotOf 𝓤 H E k ≡ (reference-type, l₄, 0) → spotOf 𝓤 H E m ≡ (T′.mir, l₅, 0)
       → ((α : ℕ) (γ : GName) → Opds K W (raw (c .pre (x α γ)) ∷ ‵ (flent (α ∷ []) (Body (mem T.the-row) l₂ 0 γ)) ∷ at-call 𝓤 H A h l₀ l₁ l₂ l₃ l₄ l₅ Γ) E xs vs)
       → ((α : ℕ) (γ : GName) → vptr l₂ 0 ∷ vs ≡ c .args (x α γ))
-      → ((h′ : Table) (n : ℕ) → Is R.the-row (left h′ n) (answered-vals (left h′ n)) → change (left h′ n) ≡ after → Seq K W (Tok ∷ at-last 𝓤 H A h l₀ l₁ l₂ l₃ l₄ l₅ Γ h′ n) (runs C Λ E return Q))
+      → ((h′ : Table) (n : ℕ) → Is R.the-row (left h′ n) (answered-vals (left h′ n)) → Says (left h′ n) → Seq K W (Tok ∷ at-last 𝓤 H A h l₀ l₁ l₂ l₃ l₄ l₅ Γ h′ n) (runs C Λ E return Q))
       → Seq K W (Tok ∷ ‵ Args ∷ at-first 𝓤 H A h l₀ l₁ l₂ l₃ l₄ l₅ Γ) (runs C Λ E (by-loan i j k m g xs) Q)
-  changes t {l₂ = l₂} {l₃ = l₃} h is fm c known x pre said after back at₀ at₁ at₂ at₃ at₄ at₅ operands args go-on =
+  changes t {l₂ = l₂} {l₃ = l₃} h is fm c known x pre said Says back at₀ at₁ at₂ at₃ at₄ at₅ operands args go-on =
       -- [the tokens; the arguments; room for the copy; room for the reference; room for the number; room for the table; the parameter; room for the answer; ..]
       assigns t (of-opd t (load t (at-local t at₁ (stop t)) (look t 6 refl))) (at-local t at₂ (stop t)) (init t 5 refl (LL.lawful T.the-type T′.the-laws 𝓤 H A W .typed h _ is .0)) $
       assigns t (addr t (at-local t at₂ (stop t))) (at-local t at₄ (stop t)) (init t 3 refl (tt, tt)) $
@@ -119,8 +117,8 @@ module _ {M : Type 1} {𝓤 : URA M} {H : Heap 𝓤} {A : Atoms 𝓤} {K : Type 
       -- [what the reference owns; its token; the lender's part; the tokens; the arguments; ..]
       move t (0 ∷ 4 ∷ []) $ fjoin t $ move t (1 ∷ 3 ∷ []) $ join t $ move t (0 ∷ 1 ∷ []) $ join t $ nothing t $ move t (1 ∷ 0 ∷ []) $ join t $ use1 W (raw (c .pre (x α γ))) (pre α γ) $
       calls-at t fm c known (x α γ) (subst (Opds K W _ _ _) (args α γ) (and-then t (load t (at-local t at₄ (stop t)) (look t 3 refl)) (operands α γ))) (λ v.
-      use1 W (later (some (λ (n : ℕ). ((‵ (flft (α ∷ []) fullShare) ⊛ Tok) ⊛ ‵ (u16 .own n (v ∷ []))) ⊛ some (λ w. ‵ (fsep (fres γ (T.the-row .coded .code (w .0))) (said (w .1))) ⊛ raw (fact 𝓤 (change (left (w .0) n) ≡ after)))))) (back α γ v) $ await t tt $ pick t (λ n.
-      split t $ move t (1 ∷ []) $ pick t (λ w. split t $ move t (1 ∷ []) $ heard t (change (left (w .0) n) ≡ after) (λ e.
+      use1 W (later (some (λ (n : ℕ). ((‵ (flft (α ∷ []) fullShare) ⊛ Tok) ⊛ ‵ (u16 .own n (v ∷ []))) ⊛ some (λ w. ‵ (fsep (fres γ (T.the-row .coded .code (w .0))) (said (w .1))) ⊛ raw (fact 𝓤 (Says (left (w .0) n))))))) (back α γ v) $ await t tt $ pick t (λ n.
+      split t $ move t (1 ∷ []) $ pick t (λ w. split t $ move t (1 ∷ []) $ heard t (Says (left (w .0) n)) (λ e.
       fsplit t $ move t (1 ∷ []) $ drop t $ move t (1 ∷ []) $ split t $ split t $
       -- [its token; the tokens; the number; the last value; the lender's part; room for the copy; the reference; room for the number; the parameter; room for the answer; ..]
       move t (2 ∷ []) $ peeks t u16 (Is u16) (shows 𝓤 H A u16) n (v ∷ []) (λ it. drop t $

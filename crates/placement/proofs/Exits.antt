@@ -7,6 +7,7 @@ use mathlib.Core.Path.{_≡_, sym, ap₂, subst, _∙_}
 use lib.ListN.{length, take}
 use lib.Seq.{take-all, take-append-seam}
 use borrow.Author.Tests.{eq-eqb, ne-eqb}
+use Rattle.scheme.specs.Schemes.{SchemeTable, Sound}
 use Rattle.model.specs.Lists.{bytes}
 use Rattle.model.specs.Report.{report}
 use Rattle.model.specs.Session.{Outcome, Infers}
@@ -28,28 +29,28 @@ pub front-whole : (text : List ℕ) → length text ≤ 25025 → text ≡ take 
 front-whole text h = sym (take-all 25025 text h)
 
 -- An infer call on what was loaded returns small numbers.
-pub bounded : (part buffer : List ℕ) (r : Loaded) (o : Inferred) (middle : List ℕ) → Loads part r → Infers (lists (r .table)) buffer (outcome o middle) →
+pub bounded : (T : SchemeTable) (part buffer : List ℕ) (r : Loaded) (o : Inferred) (middle : List ℕ) → Loads T part r → Infers (lists (r .table)) buffer (outcome o middle) →
     (o .number ≤ 24) × (o .row ≤ 255) × (o .size ≤ 6280)
-bounded part buffer r o middle loads infers = infers-bounded (well-formed-within _ (loads .well-formed)) infers
+bounded T part buffer r o middle loads infers = infers-bounded (well-formed-within _ (loads .ready .well-formed)) infers
 
 -- The loader's entry, which looks at the part of the text that decides.
-module _ (text part buffer : List ℕ) (is : part ≡ take 25025 text) (r : Loaded) (loads : Loads part r) where
-  decides : {n : ℕ} {after : List ℕ} → Returns part buffer n after → Returns text buffer n after
-  decides {n} {after} returns = returns-front (subst (λ (front : List ℕ). Returns front buffer n after) is returns)
+module _ {T : SchemeTable} (sound : Sound T) (text part buffer : List ℕ) (is : part ≡ take 25025 text) (r : Loaded) (loads : Loads T part r) where
+  decides : {n : ℕ} {after : List ℕ} → Returns T part buffer n after → Returns T text buffer n after
+  decides {n} {after} returns = returns-front sound (subst (λ (front : List ℕ). Returns T front buffer n after) is returns)
 
-  pub add-returned : ¬ (r .number ≡ 0) → 6280 ≤ length buffer → Returns text buffer (r .number * 1000 + r .line) buffer
+  pub add-returned : ¬ (r .number ≡ 0) → 6280 ≤ length buffer → Returns T text buffer (r .number * 1000 + r .line) buffer
   add-returned stop long = decides (Returns.refused-add long (loads .stop stop))
 
   module _ (o : Inferred) (middle : List ℕ) (infers : Infers (lists (r .table)) buffer (outcome o middle)) where
     module _ (all : r .number ≡ 0) (long : 6280 ≤ length buffer) where
-      pub inference-returned : ¬ (o .number ≡ 0) → Returns text buffer (o .number * 1000 + o .row) middle
+      pub inference-returned : ¬ (o .number ≡ 0) → Returns T text buffer (o .number * 1000 + o .row) middle
       inference-returned stop = decides (Returns.refused-inference long (loads .all all) infers stop)
 
-      pub report-returned : o .number ≡ 0 → Returns text buffer (100000 + o .size) middle
+      pub report-returned : o .number ≡ 0 → Returns T text buffer (100000 + o .size) middle
       report-returned accepted = decides (Returns.reported long (loads .all all) infers accepted)
 
 -- What is printed.
-module _ (text buffer : List ℕ) (r : Loaded) (loads : Loads text r) (long : 6280 ≤ length buffer) where
+module _ {T : SchemeTable} (text buffer : List ℕ) (r : Loaded) (loads : Loads T text r) (long : 6280 ≤ length buffer) where
   module _ (stop : ¬ (r .number ≡ 0)) where
     pub add-room : Room buffer 0 (pairText (bytes "X") (r .number) (r .line))
     add-room = pair-room (bytes "X") buffer (r .number) (r .line) (omega arith) (omega (arith, loads .number-most)) (omega (arith, loads .line-most)) long
@@ -57,21 +58,21 @@ module _ (text buffer : List ℕ) (r : Loaded) (loads : Loads text r) (long : 62
     add-front : (after : List ℕ) (n : ℕ) → Wrote buffer 0 (pairText (bytes "X") (r .number) (r .line)) after n → Front (pairText (bytes "X") (r .number) (r .line)) after n
     add-front after n wrote = front-written _ buffer after n add-room wrote
 
-    pub add-printed : (after : List ℕ) (n : ℕ) → Wrote buffer 0 (pairText (bytes "X") (r .number) (r .line)) after n → Prints text (take n after) × (n ≤ length after)
+    pub add-printed : (after : List ℕ) (n : ℕ) → Wrote buffer 0 (pairText (bytes "X") (r .number) (r .line)) after n → Prints T text (take n after) × (n ≤ length after)
     unfolding pairText
     add-printed after n wrote =
-        (subst (Prints text) (sym (add-front after n wrote .bytes)) (Prints.refused-add (loads .stop stop)), add-front after n wrote .fits)
+        (subst (Prints T text) (sym (add-front after n wrote .bytes)) (Prints.refused-add (loads .stop stop)), add-front after n wrote .fits)
 
-  pub inference-printed : (after : List ℕ) (n : ℕ) → r .number ≡ 0 → Printed (lists (r .table)) buffer after n → Prints text (take n after) × (n ≤ length after)
-  inference-printed after n all printed = (subst (Prints text) (sym (printed .front .bytes)) (by (ℕ-discrete (o .number) 0)), printed .front .fits)
+  pub inference-printed : (after : List ℕ) (n : ℕ) → r .number ≡ 0 → Printed (lists (r .table)) buffer after n → Prints T text (take n after) × (n ≤ length after)
+  inference-printed after n all printed = (subst (Prints T text) (sym (printed .front .bytes)) (by (ℕ-discrete (o .number) 0)), printed .front .fits)
     where
       o : Outcome
       o = printed .outcome
 
-      by : Dec (o .number ≡ 0) → Prints text (shown o)
+      by : Dec (o .number ≡ 0) → Prints T text (shown o)
       by (yes accepted) =
           let said = reported-judged (printed .infers) accepted in
           let is : shown o ≡ report (lists (r .table)) (said .0) (said .1) = simp (eq-eqb (o .number) 0 accepted) (ap₂ take (said .2) (said .3) ∙ take-append-seam (report (lists (r .table)) (said .0) (said .1)) _) in
-          subst (Prints text) (sym is) (Prints.reported (loads .all all) (said .4))
+          subst (Prints T text) (sym is) (Prints.reported (loads .all all) (said .4))
       by (no refused) =
           rw (ne-eqb (o .number) 0 refused) (Prints.refused-inference (loads .all all) (refused-judged (printed .infers) long refused .2) refused)

@@ -2,8 +2,11 @@
 ghost use mathlib.Core.Path.{_≡_};
 ghost use Prim.Native.Nat.{_≤_};
 ghost use lib.ListN.{length, take};
+ghost use Rattle.scheme.specs.Six.{sixTable};
+ghost use Rattle.schemes.specs.Schemes.{tableIn, Kept};
 ghost use Rattle.model.specs.Script.{Responds};
 ghost use Rattle.model.specs.Text.{Prints, Returns};
+use schemes::Schemes;
 use script::Layer;
 
 // What stands in a text after this many bytes does not matter: 385 lines of 64 bytes and a line feed (`load-front`).
@@ -16,12 +19,20 @@ pub const PRINTED: usize = inference::REPORT;
 // number and its line or row.
 #[no_mangle]
 pub extern "C" fn placement_report(text: &[u8], buffer: &mut [u8]) -> u32
-    ensures { λ r. ⌜ Returns (now (text .entry)) (now (buffer .entry)) r (now (buffer .exit)) ⌝ }
+    ensures { λ r. ⌜ Returns sixTable (now (text .entry)) (now (buffer .entry)) r (now (buffer .exit)) ⌝ }
+{
+    report(Schemes::six(), text, buffer)
+}
+
+// The same under any scheme table.
+fn report(schemes: Schemes, text: &[u8], buffer: &mut [u8]) -> u32
+    requires { ⌜ Kept schemes ⌝ }
+    ensures { λ r. ⌜ Returns (tableIn schemes) (now (text .entry)) (now (buffer .entry)) r (now (buffer .exit)) ⌝ }
 {
     if buffer.len() < inference::REPORT {
         return 11000;
     }
-    let loaded = text::load(front(text));
+    let loaded = text::load(schemes, front(text));
     if loaded.number != 0 {
         return loaded.number as u32 * 1000 + loaded.line as u32;
     }
@@ -53,10 +64,10 @@ pub extern "C" fn placement_session(script: &[u8], output: &mut [u8]) -> usize
 // Writes what `place` prints for a text, and returns its length.
 pub fn print(text: &[u8], buffer: &mut [u8]) -> usize
     requires { ⌜ 6280 ≤ length (now buffer) ⌝ }
-    ensures printed { λ r. ⌜ Prints (now (text .entry)) (take r (now (buffer .exit))) ⌝ }
+    ensures printed { λ r. ⌜ Prints sixTable (now (text .entry)) (take r (now (buffer .exit))) ⌝ }
     ensures size { λ r. ⌜ r ≤ length (now (buffer .exit)) ⌝ }
 {
-    let loaded = text::load(text);
+    let loaded = text::load(Schemes::six(), text);
     if loaded.number != 0 {
         return report::write_pair(buffer, 0, b"X", loaded.number as usize, loaded.line);
     }

@@ -9,9 +9,8 @@ use mathlib.Core.Path.{_≡_, refl, sym, ap, subst, _∙_}
 use lib.ListN.{getD, set}
 use lib.Seq.{set-getD, getD-set-other}
 use lib.Dec.{ltb}
-use Rattle.scheme.specs.Meet.{meetOf}
-use Rattle.scheme.proofs.Order.{rand-greatest}
-use Rattle.scheme.proofs.Meets.{meet-is-left}
+use Rattle.scheme.specs.Rule.{wordsAt, topAt, meetAt, under, Lattice}
+use Rattle.scheme.proofs.Rule.{meet-is-left}
 use Rattle.forest.specs.Forest.{up, Forest, Linked, Reach, here, further, Found, Rooted, Hung}
 use Rattle.forest.specs.Pairs.{PairsBelow}
 use Rattle.forest.proofs.Links.{by-eq, up-same, up-other, linked-into, linked-outof, linked-joins, reach-same, shorter-into, shorter-outof}
@@ -24,17 +23,17 @@ root-reaches root here = refl
 root-reaches root (further reach node) = cc (root-reaches root reach)
 
 -- A node put directly under its root: roots, bounds and readings stay.
-pub record Shortened (p p′ : List ℕ) (x r : ℕ) : Type 0 where
+pub record Shortened (R p p′ : List ℕ) (x r : ℕ) : Type 0 where
   pub low : r ≤ x
   pub under : up p′ x ≡ r
   pub root : up p′ r ≡ r
   pub roots : (z : ℕ) → up p z ≡ z → up p′ z ≡ z
-  pub classes : (b : List ℕ) → Classes p b → Classes p′ b
+  pub classes : (b : List ℕ) → Classes R p b → Classes R p′ b
   pub into : (v : ℕ → ℕ) → Linked p v → Linked p′ v
   pub outof : (v : ℕ → ℕ) → Linked p′ v → Linked p v
 
-found-shortened : {p : List ℕ} → Forest p → (x r : ℕ) → x < 327 → Found p x r → Shortened p (set p x r) x r
-found-shortened {p} f x r node found =
+found-shortened : {R p : List ℕ} → Forest p → (x r : ℕ) → x < 329 → Found p x r → Shortened R p (set p x r) x r
+found-shortened {R} {p} f x r node found =
     let stays : (z : ℕ) → up p z ≡ z → up (set p x r) z ≡ z =
     λ z root. by-eq z x (λ e. cc (up-same f x r node, root-reaches {x = x} {r = r} (cc) (found .reached))) (λ n. up-other f x r node z n ∙ root) in
     record {
@@ -47,12 +46,12 @@ found-shortened {p} f x r node found =
       outof = shorter-outof f node found;
     }
 
-pub shortened : {p p′ b : List ℕ} {x r : ℕ} → Classes p b → x < 327 → Rooted p p′ x r → Shortened p p′ x r
-shortened {p} {x = x} {r} k node rooted = subst (λ (l : List ℕ). Shortened p l x r) (sym (rooted .shorter)) (found-shortened (k .forest) x r node (rooted .found))
+pub shortened : {R p p′ b : List ℕ} {x r : ℕ} → Classes R p b → x < 329 → Rooted p p′ x r → Shortened R p p′ x r
+shortened {R} {p} {x = x} {r} k node rooted = subst (λ (l : List ℕ). Shortened R p l x r) (sym (rooted .shorter)) (found-shortened (k .forest) x r node (rooted .found))
 
-module _ {p b : List ℕ} (k : Classes p b) (low high : ℕ) (roots : Roots p low high) where
+module _ {R p b : List ℕ} (k : Classes R p b) (low high : ℕ) (roots : Roots p low high) where
   -- Two constants have their own codes in every reading.
-  clashing : high < 7 → United p b p b low high false
+  clashing : high < wordsAt R → United R p b p b low high false
   clashing constant =
       record {
         classes = k;
@@ -64,9 +63,9 @@ module _ {p b : List ℕ} (k : Classes p b) (low high : ℕ) (roots : Roots p lo
         stays = λ m _ _ u. u;
       }
 
-  joined : 7 ≤ high → United p b (set p high low) (set b low (meetOf (boundAt b low) (boundAt b high))) low high true
+  joined : wordsAt R ≤ high → United R p b (set p high low) (set b low (meetAt R (boundAt b low) (boundAt b high))) low high true
   joined free =
-      let l = lowered b (k .size) (k .codes) low (boundAt b high) (omega (arith, roots .less, roots .node)) (k .codes high (roots .node)) in
+      let l = lowered (k .lattice) b (k .size) (k .codes) low (boundAt b high) (omega (arith, roots .less, roots .node)) (k .codes high (roots .node)) in
       let joins : (v : ℕ → ℕ) → Linked (set p high low) v → v high ≡ v low = linked-joins (k .forest) high low (roots .node) in
       record {
         classes =
@@ -83,45 +82,45 @@ module _ {p b : List ℕ} (k : Classes p b) (low high : ℕ) (roots : Roots p lo
       }
 
   -- RAND bounds nothing, so the smaller root keeps its bound.
-  joined-rand : 7 ≤ high → boundAt b high ≡ 6 → United p b (set p high low) b low high true
+  joined-rand : wordsAt R ≤ high → boundAt b high ≡ topAt R → United R p b (set p high low) b low high true
   joined-rand free rand =
       let code = k .codes low (omega (arith, roots .less, roots .node)) in
-      let same : meetOf (boundAt b low) (boundAt b high) ≡ boundAt b low =
-      ap (meetOf (boundAt b low)) rand ∙ eqb-true _ _ (meet-is-left (boundAt b low) 6 code (omega arith) ∙ rand-greatest (boundAt b low) code) in
-      subst (λ (b′ : List ℕ). United p b (set p high low) b′ low high true) (ap (set b low) same ∙ set-getD b low 0) (joined free)
+      let same : meetAt R (boundAt b low) (boundAt b high) ≡ boundAt b low =
+      ap (meetAt R (boundAt b low)) rand ∙ eqb-true _ _ (meet-is-left (k .lattice) (boundAt b low) (topAt R) code (k .lattice .top-code) ∙ k .lattice .top-greatest (boundAt b low) code) in
+      subst (λ (b′ : List ℕ). United R p b (set p high low) b′ low high true) (ap (set b low) same ∙ set-getD b low 0) (joined free)
 
 -- What `join` and `unite` answer: the root of the class that they made, or no node.
-abbrev Made : (p b p′ b′ : List ℕ) (x y at r : ℕ) → Type 0
-Made p b p′ b′ x y at r = United p b p′ b′ x y (ltb r 327) × Class p′ b b′ at r
+abbrev Made : (R p b p′ b′ : List ℕ) (x y at r : ℕ) → Type 0
+Made R p b p′ b′ x y at r = United R p b p′ b′ x y (ltb r 329) × Class p′ b b′ at r
 
-made-none : {p b p′ : List ℕ} {x y : ℕ} (at : ℕ) → United p b p′ b x y false → Made p b p′ b x y at 327
+made-none : {R p b p′ : List ℕ} {x y : ℕ} (at : ℕ) → United R p b p′ b x y false → Made R p b p′ b x y at 329
 made-none at u = (
   u,
   record { number = omega arith; root = λ h. absurd (omega arith); holds = λ h. absurd (omega arith); low = λ h. absurd (omega arith); others = λ z _. refl },
 )
 
-made-root : {p b p′ b′ : List ℕ} {x y at r : ℕ} → r < 327 → United p b p′ b′ x y true → up p′ r ≡ r → ((v : ℕ → ℕ) → Linked p′ v → v r ≡ v at) → r ≤ at →
-    ((z : ℕ) → (z ≡ r → ⊥) → boundAt b′ z ≡ boundAt b z) → Made p b p′ b′ x y at r
+made-root : {R p b p′ b′ : List ℕ} {x y at r : ℕ} → r < 329 → United R p b p′ b′ x y true → up p′ r ≡ r → ((v : ℕ → ℕ) → Linked p′ v → v r ≡ v at) → r ≤ at →
+    ((z : ℕ) → (z ≡ r → ⊥) → boundAt b′ z ≡ boundAt b z) → Made R p b p′ b′ x y at r
 made-root {r = r} node u root holds low others =
-    (rw (lt-ltb r 327 node) u, record { number = omega arith; root = λ _. root; holds = λ _. holds; low = λ _. low; others = others })
+    (rw (lt-ltb r 329 node) u, record { number = omega arith; root = λ _. root; holds = λ _. holds; low = λ _. low; others = others })
 
-module _ {p b : List ℕ} (k : Classes p b) (low high : ℕ) (roots : Roots p low high) where
-  pub join-clash : high < 7 → Made p b p b low high low 327
+module _ {R p b : List ℕ} (k : Classes R p b) (low high : ℕ) (roots : Roots p low high) where
+  pub join-clash : high < wordsAt R → Made R p b p b low high low 329
   join-clash constant = made-none low (clashing k low high roots constant)
 
-  under : {b′ : List ℕ} → United p b (set p high low) b′ low high true → ((z : ℕ) → (z ≡ low → ⊥) → boundAt b′ z ≡ boundAt b z) → Made p b (set p high low) b′ low high low low
-  under u others =
+  put-low : {b′ : List ℕ} → United R p b (set p high low) b′ low high true → ((z : ℕ) → (z ≡ low → ⊥) → boundAt b′ z ≡ boundAt b z) → Made R p b (set p high low) b′ low high low low
+  put-low u others =
       made-root (omega (arith, roots .less, roots .node)) u
       (up-other (k .forest) high low (roots .node) low (λ e. omega (arith, roots .less)) ∙ roots .low-root)
       (λ v _. refl) (omega arith) others
 
-  pub join-meets : 7 ≤ high → Made p b (set p high low) (set b low (meetOf (boundAt b low) (boundAt b high))) low high low low
-  join-meets free = under (joined k low high roots free) (λ z n. getD-set-other b low z _ 0 n)
+  pub join-meets : wordsAt R ≤ high → Made R p b (set p high low) (set b low (meetAt R (boundAt b low) (boundAt b high))) low high low low
+  join-meets free = put-low (joined k low high roots free) (λ z n. getD-set-other b low z _ 0 n)
 
-  pub join-rand : 7 ≤ high → boundAt b high ≡ 6 → Made p b (set p high low) b low high low low
-  join-rand free rand = under (joined-rand k low high roots free rand) (λ z _. refl)
+  pub join-rand : wordsAt R ≤ high → boundAt b high ≡ topAt R → Made R p b (set p high low) b low high low low
+  join-rand free rand = put-low (joined-rand k low high roots free rand) (λ z _. refl)
 
-united-turned : {p b p′ b′ : List ℕ} {x y : ℕ} {r : Bool} → United p b p′ b′ y x r → United p b p′ b′ x y r
+united-turned : {R p b p′ b′ : List ℕ} {x y : ℕ} {r : Bool} → United R p b p′ b′ y x r → United R p b p′ b′ x y r
 united-turned u =
     record {
       classes = u .classes;
@@ -134,14 +133,14 @@ united-turned u =
     }
 
 -- Both nodes were put under their roots, which the readings do not tell from them.
-module _ {p p₁ p₂ b : List ℕ} {x y a c : ℕ} (asked : Classes p b × ((x < 327) × (y < 327))) (one : Rooted p p₁ x a) (two : Rooted p₁ p₂ y c) where
-  first : Shortened p p₁ x a
+module _ {R p p₁ p₂ b : List ℕ} {x y a c : ℕ} (asked : Classes R p b × ((x < 329) × (y < 329))) (one : Rooted p p₁ x a) (two : Rooted p₁ p₂ y c) where
+  first : Shortened R p p₁ x a
   first = shortened (asked .0) (asked .1 .0) one
 
-  second : Shortened p₁ p₂ y c
+  second : Shortened R p₁ p₂ y c
   second = shortened (first .classes b (asked .0)) (asked .1 .1) two
 
-  kept : Classes p₂ b
+  kept : Classes R p₂ b
   kept = second .classes b (first .classes b (asked .0))
 
   into-both : (v : ℕ → ℕ) → Linked p v → Linked p₂ v
@@ -150,7 +149,7 @@ module _ {p p₁ p₂ b : List ℕ} {x y a c : ℕ} (asked : Classes p b × ((x 
   outof-both : (v : ℕ → ℕ) → Linked p₂ v → Linked p v
   outof-both v linked = first .outof v (second .outof v linked)
 
-  stays-both : {m : ℕ} → Untouched m p b → Untouched m p₂ b
+  stays-both : {m : ℕ} → Untouched R m p b → Untouched R m p₂ b
   stays-both u = record { own = λ z from h. second .roots z (first .roots z (u .own z from h)); unbound = u .unbound }
 
   same-x : (v : ℕ → ℕ) → Linked p₂ v → v x ≡ v a
@@ -160,15 +159,15 @@ module _ {p p₁ p₂ b : List ℕ} {x y a c : ℕ} (asked : Classes p b × ((x 
   same-y v linked = linked y (asked .1 .1) ∙ ap v (second .under)
 
   -- What `join` asks, by which root is the smaller.
-  pub roots-rising : a < c → Classes p₂ b × Roots p₂ a c
+  pub roots-rising : a < c → Classes R p₂ b × Roots p₂ a c
   roots-rising less =
       (kept, record { less = less; node = omega (arith, second .low, asked .1); low-root = second .roots a (first .root); high-root = second .root })
 
-  pub roots-falling : c < a → Classes p₂ b × Roots p₂ c a
+  pub roots-falling : c < a → Classes R p₂ b × Roots p₂ c a
   roots-falling less =
       (kept, record { less = less; node = omega (arith, first .low, asked .1); low-root = second .root; high-root = second .roots a (first .root) })
 
-  united-already : a ≡ c → United p b p₂ b x y true
+  united-already : a ≡ c → United R p b p₂ b x y true
   united-already e =
       record {
         classes = kept;
@@ -180,7 +179,7 @@ module _ {p p₁ p₂ b : List ℕ} {x y a c : ℕ} (asked : Classes p b × ((x 
         stays = λ m _ _. stays-both;
       }
 
-  united-roots : {p′ b′ : List ℕ} {r : Bool} → United p₂ b p′ b′ a c r → United p b p′ b′ x y r
+  united-roots : {p′ b′ : List ℕ} {r : Bool} → United R p₂ b p′ b′ a c r → United R p b p′ b′ x y r
   united-roots u =
       let up-to : (v : ℕ → ℕ) → Linked p₂ v → v x ≡ v y → v a ≡ v c = λ v linked e. sym (same-x v linked) ∙ e ∙ same-y v linked in
       record {
@@ -196,42 +195,42 @@ module _ {p p₁ p₂ b : List ℕ} {x y a c : ℕ} (asked : Classes p b × ((x 
       }
 
   -- The class's root is that of y as well.
-  class-up : {p′ b′ : List ℕ} {at r : ℕ} → at ≤ c → (ltb r 327 ≡ true → (v : ℕ → ℕ) → Linked p′ v → (v at ≡ v y)) → Class p′ b b′ at r → Class p′ b b′ y r
+  class-up : {p′ b′ : List ℕ} {at r : ℕ} → at ≤ c → (ltb r 329 ≡ true → (v : ℕ → ℕ) → Linked p′ v → (v at ≡ v y)) → Class p′ b b′ at r → Class p′ b b′ y r
   class-up {r = r} low same found =
       record {
         number = found .number;
         root = found .root;
-        holds = λ node v linked. found .holds node v linked ∙ same (lt-ltb r 327 node) v linked;
+        holds = λ node v linked. found .holds node v linked ∙ same (lt-ltb r 329 node) v linked;
         low = λ node. omega (arith, found .low node, second .low);
         others = found .others;
       }
 
-  pub unite-already : a ≡ c → Made p b p₂ b x y y a
+  pub unite-already : a ≡ c → Made R p b p₂ b x y y a
   unite-already e =
       made-root (omega (arith, first .low, asked .1)) (united-already e) (second .roots a (first .root))
       (λ v linked. ap v e ∙ sym (same-y v linked)) (omega (arith, second .low)) (λ z _. refl)
 
-  pub unite-rising : {p′ b′ : List ℕ} {r : ℕ} → a < c → Made p₂ b p′ b′ a c a r → Made p b p′ b′ x y y r
+  pub unite-rising : {p′ b′ : List ℕ} {r : ℕ} → a < c → Made R p₂ b p′ b′ a c a r → Made R p b p′ b′ x y y r
   unite-rising less made = (
     united-roots (made .0),
     class-up (omega arith) (λ done v linked. let out = made .0 .outof done v linked in out .1 ∙ sym (same-y v (out .0))) (made .1),
   )
 
-  pub unite-falling : {p′ b′ : List ℕ} {r : ℕ} → Made p₂ b p′ b′ c a c r → Made p b p′ b′ x y y r
+  pub unite-falling : {p′ b′ : List ℕ} {r : ℕ} → Made R p₂ b p′ b′ c a c r → Made R p b p′ b′ x y y r
   unite-falling made = (
     united-roots (united-turned (made .0)),
     class-up (omega arith) (λ done v linked. sym (same-y v (made .0 .outof done v linked .0))) (made .1),
   )
 
 -- The test of the answer.
-pub no-class : {r : ℕ} → r ≡ 327 → ltb r 327 ≡ false
-no-class {r} e = le-ltb r 327 (omega arith)
+pub no-class : {r : ℕ} → r ≡ 329 → ltb r 329 ≡ false
+no-class {r} e = le-ltb r 329 (omega arith)
 
-pub class-node : {p′ b b′ : List ℕ} {y r : ℕ} → Class p′ b b′ y r → (r ≡ 327 → ⊥) → r < 327
+pub class-node : {p′ b b′ : List ℕ} {y r : ℕ} → Class p′ b b′ y r → (r ≡ 329 → ⊥) → r < 329
 class-node found n = omega (arith, found .number)
 
 -- A node made one with another's root is made one with the other.
-united-below : {p b p′ b′ : List ℕ} {x y r : ℕ} → Found p y r → United p b p′ b′ x r true → United p b p′ b′ x y true
+united-below : {R p b p′ b′ : List ℕ} {x y r : ℕ} → Found p y r → United R p b p′ b′ x r true → United R p b p′ b′ x y true
 united-below found u =
     record {
       classes = u .classes;
@@ -244,9 +243,9 @@ united-below found u =
     }
 
 -- A root that is put under itself stays a class of its own.
-united-self : {p p′ b : List ℕ} {x : ℕ} → Classes p b → up p x ≡ x → Hung p p′ x x → United p b p′ b x x true
-united-self {p} {b = b} {x} k root hung =
-    subst (λ (l : List ℕ). United p b l b x x true)
+united-self : {R p p′ b : List ℕ} {x : ℕ} → Classes R p b → up p x ≡ x → Hung p p′ x x → United R p b p′ b x x true
+united-self {R} {p} {b = b} {x} k root hung =
+    subst (λ (l : List ℕ). United R p b l b x x true)
     (sym (hung .under ∙ ap (set p x) (root-reaches root (hung .found .reached) ∙ sym root) ∙ set-getD p x 0))
     (record {
       classes = k;
@@ -258,26 +257,26 @@ united-self {p} {b = b} {x} k root hung =
       stays = λ m _ _ untouched. untouched;
     })
 
-module _ {p p′ b : List ℕ} {x y : ℕ} (k : Classes p b) (free : 7 ≤ x) (node : x < 327) (root : up p x ≡ x) (unbound : boundAt b x ≡ 6) where
-  new-above : y < x → Hung p p′ x y → United p b p′ b x y true
+module _ {R p p′ b : List ℕ} {x y : ℕ} (k : Classes R p b) (free : wordsAt R ≤ x) (node : x < 329) (root : up p x ≡ x) (unbound : boundAt b x ≡ topAt R) where
+  new-above : y < x → Hung p p′ x y → United R p b p′ b x y true
   new-above less hung =
       let roots : Roots p (hung .root) x =
       record { less = omega (arith, hung .found .low); node = node; low-root = hung .found .root; high-root = root } in
-      subst (λ (l : List ℕ). United p b l b x y true) (sym (hung .under)) (united-below (hung .found) (united-turned (joined-rand k (hung .root) x roots free unbound)))
+      subst (λ (l : List ℕ). United R p b l b x y true) (sym (hung .under)) (united-below (hung .found) (united-turned (joined-rand k (hung .root) x roots free unbound)))
 
   -- A new node, which nothing bounds, was put under the root above a smaller one or above itself.
-  pub new-alike : y ≤ x → Hung p p′ x y → United p b p′ b x y true
+  pub new-alike : y ≤ x → Hung p p′ x y → United R p b p′ b x y true
   new-alike low hung =
       by-eq y x
-      (λ e. subst (λ (z : ℕ). United p b p′ b x z true) (sym e) (united-self k root (subst (Hung p p′ x) e hung)))
+      (λ e. subst (λ (z : ℕ). United R p b p′ b x z true) (sym e) (united-self k root (subst (Hung p p′ x) e hung)))
       (λ n. new-above (omega arith) hung)
 
 -- Fewer nodes are untouched.
-pub untouched-more : {p b : List ℕ} {m n : ℕ} → m ≤ n → Untouched m p b → Untouched n p b
+pub untouched-more : {R p b : List ℕ} {m n : ℕ} → m ≤ n → Untouched R m p b → Untouched R n p b
 untouched-more more u = record { own = λ z from. u .own z (omega arith); unbound = λ z from. u .unbound z (omega arith) }
 
 -- No pair, one pair more, and a pair that clashes.
-pub all-none : {p b left right : List ℕ} → Classes p b → UnitedAll p b p b left right 0 true
+pub all-none : {R p b left right : List ℕ} → Classes R p b → UnitedAll R p b p b left right 0 true
 all-none {left} {right} k =
     record {
       classes = k;
@@ -289,15 +288,15 @@ all-none {left} {right} k =
       stays = λ m _ u. u;
     }
 
-module _ {p b p₁ b₁ p₂ b₂ left right : List ℕ} {i : ℕ} {r : Bool} (all : UnitedAll p b p₁ b₁ left right i true) (u : United p₁ b₁ p₂ b₂ (getD left i 0) (getD right i 0) r) where
+module _ {R p b p₁ b₁ p₂ b₂ left right : List ℕ} {i : ℕ} {r : Bool} (all : UnitedAll R p b p₁ b₁ left right i true) (u : United R p₁ b₁ p₂ b₂ (getD left i 0) (getD right i 0) r) where
   -- The pairs before i lie below m, and so does pair i.
-  stays-on : {n : ℕ} → i < n → (m : ℕ) → PairsBelow m left right n → Untouched m p b → Untouched m p₂ b₂
+  stays-on : {n : ℕ} → i < n → (m : ℕ) → PairsBelow m left right n → Untouched R m p b → Untouched R m p₂ b₂
   stays-on less m below untouched =
       let before : PairsBelow m left right i =
       record { left-below = λ j h. below .left-below j (omega arith); right-below = λ j h. below .right-below j (omega arith) } in
       u .stays m (below .left-below i less) (below .right-below i less) (all .stays m before untouched)
 
-  pub all-more : r ≡ true → UnitedAll p b p₂ b₂ left right (i + 1) true
+  pub all-more : r ≡ true → UnitedAll R p b p₂ b₂ left right (i + 1) true
   all-more done =
       record {
         classes = u .classes;
@@ -312,7 +311,7 @@ module _ {p b p₁ b₁ p₂ b₂ left right : List ℕ} {i : ℕ} {r : Bool} (a
         stays = stays-on (omega arith);
       }
 
-  pub all-clash : {n : ℕ} → i < n → r ≡ false → UnitedAll p b p₂ b₂ left right n false
+  pub all-clash : {n : ℕ} → i < n → r ≡ false → UnitedAll R p b p₂ b₂ left right n false
   all-clash less two =
       record {
         classes = u .classes;

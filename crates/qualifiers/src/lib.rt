@@ -4,35 +4,47 @@ ghost use mathlib.Core.Bool.{true};
 ghost use Prim.Native.Nat.{ℕ, _<_};
 ghost use lib.Dec.{ltb};
 ghost use lib.ListN.{length};
-ghost use Rattle.scheme.specs.Order.{atOrBelow};
+ghost use Rattle.scheme.specs.Rule.{wordsAt, topAt, under, Lattice};
 ghost use Rattle.forest.specs.Forest.{Forest};
 ghost use Rattle.forest.specs.Pairs.{Pairs};
 ghost use Rattle.qualifiers.specs.Classes.{boundAt, Classes, Roots, United, Class, UnitedAll, Restricted, Tested, Greatest};
 
 // The answer where two constants would be one: no node has this number.
-pub const APART: usize = 327;
+pub const APART: usize = 329;
 
 // Puts a root under a smaller one, which takes the meet of the two bounds; RAND leaves the other as it is. The smaller one, or APART: both are constants.
-fn join(parent: &mut [u16; 327], bound: &mut [u8; 327], low: usize, high: usize) -> usize
-    requires { ⌜ Classes (now parent) (now bound) ⌝ ∗ ⌜ Roots (now parent) low high ⌝ }
-    ensures { λ r. ⌜ United (now (parent .entry)) (now (bound .entry)) (now (parent .exit)) (now (bound .exit)) low high (ltb r 327) ⌝ ∗ ⌜ Class (now (parent .exit)) (now (bound .entry)) (now (bound .exit)) low r ⌝ }
+fn join(
+    rule: &[u8; 88],
+    parent: &mut [u16; 329],
+    bound: &mut [u8; 329],
+    low: usize,
+    high: usize,
+) -> usize
+    requires { ⌜ Classes (now rule) (now parent) (now bound) ⌝ ∗ ⌜ Roots (now parent) low high ⌝ }
+    ensures { λ r. ⌜ United (now (rule .entry)) (now (parent .entry)) (now (bound .entry)) (now (parent .exit)) (now (bound .exit)) low high (ltb r 329) ⌝ ∗ ⌜ Class (now (parent .exit)) (now (bound .entry)) (now (bound .exit)) low r ⌝ }
 {
-    if high < 7 {
+    if high < scheme::words(rule) {
         return APART;
     }
-    if bound[high] == 6 {
+    if bound[high] == scheme::top(rule) {
         forest::put_under(parent, high, low);
         return low;
     }
-    bound[low] = scheme::meet(bound[low], bound[high]);
+    bound[low] = scheme::meet_in(rule, bound[low], bound[high]);
     forest::put_under(parent, high, low);
     low
 }
 
 // Makes the classes of two nodes one, under the smaller root: that root, or APART: both hold a constant, and not the same one.
-pub fn unite(parent: &mut [u16; 327], bound: &mut [u8; 327], x: usize, y: usize) -> usize
-    requires { ⌜ Classes (now parent) (now bound) ⌝ ∗ ⌜ (x < 327) × (y < 327) ⌝ }
-    ensures { λ r. ⌜ United (now (parent .entry)) (now (bound .entry)) (now (parent .exit)) (now (bound .exit)) x y (ltb r 327) ⌝ ∗ ⌜ Class (now (parent .exit)) (now (bound .entry)) (now (bound .exit)) y r ⌝ }
+pub fn unite(
+    rule: &[u8; 88],
+    parent: &mut [u16; 329],
+    bound: &mut [u8; 329],
+    x: usize,
+    y: usize,
+) -> usize
+    requires { ⌜ Classes (now rule) (now parent) (now bound) ⌝ ∗ ⌜ (x < 329) × (y < 329) ⌝ }
+    ensures { λ r. ⌜ United (now (rule .entry)) (now (parent .entry)) (now (bound .entry)) (now (parent .exit)) (now (bound .exit)) x y (ltb r 329) ⌝ ∗ ⌜ Class (now (parent .exit)) (now (bound .entry)) (now (bound .exit)) y r ⌝ }
 {
     let a = forest::root(parent, x);
     let b = forest::root(parent, y);
@@ -40,26 +52,27 @@ pub fn unite(parent: &mut [u16; 327], bound: &mut [u8; 327], x: usize, y: usize)
         return a;
     }
     if a < b {
-        join(parent, bound, a, b)
+        join(rule, parent, bound, a, b)
     } else {
-        join(parent, bound, b, a)
+        join(rule, parent, bound, b, a)
     }
 }
 
 // Makes the two nodes of each of the first n pairs one. False: two constants met.
 pub fn unite_all(
-    parent: &mut [u16; 327],
-    bound: &mut [u8; 327],
+    rule: &[u8; 88],
+    parent: &mut [u16; 329],
+    bound: &mut [u8; 329],
     left: &[u16; 704],
     right: &[u16; 704],
     n: usize,
 ) -> bool
-    requires { ⌜ Classes (now parent) (now bound) ⌝ ∗ ⌜ Pairs (now left) (now right) n ⌝ }
-    ensures { λ r. ⌜ UnitedAll (now (parent .entry)) (now (bound .entry)) (now (parent .exit)) (now (bound .exit)) (now (left .entry)) (now (right .entry)) n r ⌝ }
+    requires { ⌜ Classes (now rule) (now parent) (now bound) ⌝ ∗ ⌜ Pairs (now left) (now right) n ⌝ }
+    ensures { λ r. ⌜ UnitedAll (now (rule .entry)) (now (parent .entry)) (now (bound .entry)) (now (parent .exit)) (now (bound .exit)) (now (left .entry)) (now (right .entry)) n r ⌝ }
 {
     let mut i: usize = 0;
     while i < n {
-        if unite(parent, bound, left[i] as usize, right[i] as usize) == APART {
+        if unite(rule, parent, bound, left[i] as usize, right[i] as usize) == APART {
             return false;
         }
         i += 1;
@@ -68,32 +81,34 @@ pub fn unite_all(
 }
 
 // Lowers the bound of a root to what `most` allows. False: the root is a constant, and above its bound.
-pub fn restrict(bound: &mut [u8; 327], r: usize, most: u8) -> bool
-    requires { ⌜ (length (now bound) ≡ 327) × ((x : ℕ) → x < 327 → boundAt (now bound) x < 7) ⌝ ∗ ⌜ (r < 327) × (most < 7) ⌝ }
-    ensures { λ fits. ⌜ Restricted (now (bound .entry)) (now (bound .exit)) r most fits ⌝ }
+pub fn restrict(rule: &[u8; 88], bound: &mut [u8; 329], r: usize, most: u8) -> bool
+    requires { ⌜ Lattice (now rule) × (length (now bound) ≡ 329) × ((x : ℕ) → x < 329 → boundAt (now bound) x < wordsAt (now rule)) ⌝ ∗ ⌜ (r < 329) × (most < wordsAt (now rule)) ⌝ }
+    ensures { λ fits. ⌜ Restricted (now (rule .entry)) (now (bound .entry)) (now (bound .exit)) r most fits ⌝ }
 {
-    if bound[r] == 6 {
+    if bound[r] == scheme::top(rule) {
         bound[r] = most;
     } else {
-        bound[r] = scheme::meet(bound[r], most);
+        bound[r] = scheme::meet_in(rule, bound[r], most);
     }
-    if r < 7 {
-        return scheme::at_or_below(r as u8, bound[r]);
+    if r < scheme::words(rule) {
+        return scheme::is_under(rule, r as u8, bound[r]);
     }
     true
 }
 
 // Whether every constant is at or below its bound. RAND bounds nothing, and most bounds are RAND.
-pub fn within_bounds(bound: &[u8; 327]) -> bool
-    requires { ⌜ (length (now bound) ≡ 327) × ((x : ℕ) → x < 327 → boundAt (now bound) x < 7) ⌝ }
-    ensures { λ r. ⌜ Tested (now (bound .entry)) r ⌝ }
+pub fn within_bounds(rule: &[u8; 88], bound: &[u8; 329]) -> bool
+    requires { ⌜ Lattice (now rule) × (length (now bound) ≡ 329) × ((x : ℕ) → x < 329 → boundAt (now bound) x < wordsAt (now rule)) ⌝ }
+    ensures { λ r. ⌜ Tested (now (rule .entry)) (now (bound .entry)) r ⌝ }
 {
+    let words = scheme::words(rule) as u8;
+    let top = scheme::top(rule);
     let mut c: u8 = 0;
-    while c < 7 {
-        if bound[c as usize] == 6 {
+    while c < words {
+        if bound[c as usize] == top {
             c += 1;
         } else {
-            if !scheme::at_or_below(c, bound[c as usize]) {
+            if !scheme::is_under(rule, c, bound[c as usize]) {
                 return false;
             }
             c += 1;
@@ -103,13 +118,14 @@ pub fn within_bounds(bound: &[u8; 327]) -> bool
 }
 
 // Puts into each node's bound the greatest qualifier that a reading gives it, from below: a parent is settled before its node.
-pub fn settle(parent: &[u16; 327], bound: &mut [u8; 327])
-    requires { ⌜ Classes (now parent) (now bound) ⌝ ∗ ⌜ ((c : ℕ) → c < 7 → atOrBelow c (boundAt (now bound) c) ≡ true) ⌝ }
-    ensures { λ _. ⌜ Greatest (now (parent .entry)) (now (bound .entry)) (boundAt (now (bound .exit))) ⌝ }
+pub fn settle(rule: &[u8; 88], parent: &[u16; 329], bound: &mut [u8; 329])
+    requires { ⌜ Classes (now rule) (now parent) (now bound) ⌝ ∗ ⌜ ((c : ℕ) → c < wordsAt (now rule) → under (now rule) c (boundAt (now bound) c) ≡ true) ⌝ }
+    ensures { λ _. ⌜ Greatest (now (rule .entry)) (now (parent .entry)) (now (bound .entry)) (boundAt (now (bound .exit))) ⌝ }
 {
+    let words = scheme::words(rule);
     let mut x: usize = 0;
-    while x < 327 {
-        if x < 7 {
+    while x < 329 {
+        if x < words {
             bound[x] = x as u8;
             x += 1;
         } else {

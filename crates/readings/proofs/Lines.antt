@@ -9,7 +9,11 @@ use borrow.Author.Tests.{lt-ltb}
 use Rattle.model.specs.Machine.{Machine, typeAt, paramAt}
 use Rattle.model.specs.WellFormed.{WellFormed, TypeStands}
 use Rattle.model.specs.Typing.{Ty, int, arrow, Typable, TypeAgrees}
-use Rattle.model.specs.Strength.{whole, six}
+use Rattle.model.specs.Strength.{whole}
+use Rattle.model.specs.Inference.{ruling}
+use Rattle.scheme.specs.Schemes.{words}
+use Rattle.scheme.specs.Rule.{Ruled}
+use mathlib.Core.List.{List}
 use Rattle.model.specs.declared.TypeForm.{TypeForm}
 use Rattle.model.specs.declared.TypeForm.the-variants.{Int, Any, Arrow}
 use Rattle.readings.specs.Nodes.{assignment, free, Meets}
@@ -27,11 +31,11 @@ rowType : Machine → (ℕ → ℕ) → ℕ → ℕ → Ty ℕ
 rowType m v zero x = int
 rowType m v (suc fuel) x = formType v (rowType m v fuel) (typeAt m x)
 
-form-same : (v : ℕ → ℕ) (t t′ : ℕ → Ty ℕ) (x : ℕ) (form : TypeForm) → TypeStands x form → ((y : ℕ) → y < x → t y ≡ t′ y) → formType v t form ≡ formType v t′ form
+form-same : (w : ℕ) (v : ℕ → ℕ) (t t′ : ℕ → Ty ℕ) (x : ℕ) (form : TypeForm) → TypeStands w x form → ((y : ℕ) → y < x → t y ≡ t′ y) → formType v t form ≡ formType v t′ form
 unfolding formType
-form-same v t t′ x Int st e = refl
-form-same v t t′ x Any st e = refl
-form-same v t t′ x (Arrow q a q′ b) st e = cc (e a (st .1), e b (st .3))
+form-same w v t t′ x Int st e = refl
+form-same w v t t′ x Any st e = refl
+form-same w v t t′ x (Arrow q a q′ b) st e = cc (e a (st .1), e b (st .3))
 
 module _ (m : Machine) (wf : WellFormed m) (v : ℕ → ℕ) where
   stable : (f g x : ℕ) → x < f → x < g → x < length (m .types) → rowType m v f x ≡ rowType m v g x
@@ -39,13 +43,13 @@ module _ (m : Machine) (wf : WellFormed m) (v : ℕ → ℕ) where
   stable zero g x h l in-list = let z : ⊥ = omega arith in absurd z
   stable (suc f) zero x h l in-list = let z : ⊥ = omega arith in absurd z
   stable (suc f) (suc g) x h l in-list =
-      form-same v (rowType m v f) (rowType m v g) x (typeAt m x) (wf .types-stand x in-list)
+      form-same (words (m .schemes)) v (rowType m v f) (rowType m v g) x (typeAt m x) (wf .types-stand x in-list)
       (λ y below. stable f g y (omega arith) (omega arith) (omega arith))
 
   type : ℕ → Ty ℕ
   type x = rowType m v (suc x) x
 
-  agrees : (x : ℕ) (form : TypeForm) → TypeStands x form → x < length (m .types) → TypeAgrees (free v) (assignment m type v) form (formType v (rowType m v x) form)
+  agrees : (x : ℕ) (form : TypeForm) → TypeStands (words (m .schemes)) x form → x < length (m .types) → TypeAgrees (free m v) (assignment m type v) form (formType v (rowType m v x) form)
   unfolding formType type
   agrees x Int st h = refl
   agrees x Any st h = tt
@@ -62,10 +66,11 @@ module _ (m : Machine) (wf : WellFormed m) (v : ℕ → ℕ) where
       }
 
 -- Each constant has its own code, and every variable PLAIN.
-plain : ℕ → ℕ
-plain x = cond (ltb x 7) x 0
+plain : ℕ → ℕ → ℕ
+plain w x = cond (ltb x w) x 0
 
-pub lines-typable : (m : Machine) → WellFormed m → Typable (whole six) m 0
+pub lines-typable : (m : Machine) → WellFormed m → (R : List ℕ) → Ruled (m .schemes) R → Typable (whole (ruling m)) m 0
 unfolding plain
-lines-typable m wf =
-    some-whole m wf 0 (type m wf plain) plain (λ c h. rw (lt-ltb c 7 h)) (lines-meet m wf plain) (λ i below h. let z : ⊥ = omega arith in absurd z)
+lines-typable m wf R rules =
+    some-whole m wf 0 R rules (type m wf (plain (words (m .schemes)))) (plain (words (m .schemes))) (λ c h. rw (lt-ltb c (words (m .schemes)) h)) (lines-meet m wf (plain (words (m .schemes))))
+    (λ i below h. let z : ⊥ = omega arith in absurd z)

@@ -2,88 +2,116 @@
 use Prim.Native.Nat.{ℕ, _+_, _-_, _<_, _≤_}
 use native.Mathlib.Omega.{arith}
 use mathlib.Core.Bool.{Bool, true, false, cond}
+use mathlib.Core.List.{List}
 use mathlib.Core.Path.{_≡_, refl, sym, ap, subst, _∙_}
 use lib.Dec.{ltb}
 use lib.ListN.{length}
+use Rattle.scheme.specs.Schemes.{words, below, highestOf, Sound}
+use Rattle.scheme.specs.Rule.{highestAt, under, Ruled}
 use Rattle.scheme.specs.Qualifier.{code, qualifier}
-use Rattle.scheme.specs.Order.{atOrBelow}
-use Rattle.scheme.specs.Operation.{highestOf}
 use Rattle.scheme.proofs.Qualifier.{code-qualifier, code-below}
-use Rattle.scheme.proofs.Operation.{highest-code}
+use Rattle.scheme.proofs.Schemes.{sound-few, highest-code}
+use Rattle.scheme.proofs.Rule.{under-same, under-codes}
 use Rattle.model.specs.Machine.{Machine, termAt}
-use Rattle.model.specs.WellFormed.{WellFormed}
+use Rattle.model.specs.WellFormed.{WellFormed, TermStands}
 use Rattle.model.specs.Typing.{Ty, Qualified, Assignment, Typing, Typable, RowMeets}
 use Rattle.model.specs.declared.Term.{Term}
 use Rattle.model.specs.declared.Term.the-variants.{Lam, App, Op, Var, Num, Enc}
-use Rattle.model.specs.Strength.{whole, unordered, erased, six}
+use Rattle.model.specs.Strength.{whole, unordered, erased}
+use Rattle.model.specs.Inference.{ruling}
 use Rattle.model.proofs.Weaker.{mapAssignment, weaker-rules, weaker-typing}
 use Rattle.readings.specs.Nodes.{assignment, Meets, RowFits, FitsAll, Constant, Coded}
-use Rattle.readings.proofs.Numbers.{numbered, loose, blind, whole-numbered, numbered-whole, unordered-loose, loose-unordered, erased-blind, blind-erased}
+use Rattle.readings.proofs.Numbers.{coded, coded-same, numbered, loose, blind, whole-numbered, numbered-whole, unordered-loose, loose-unordered, erased-blind, blind-erased}
 use Rattle.readings.proofs.Typable.{nodeType, nodeQualifier, word-node, row-qualifier-node, nodes-meet, typing-of-meets}
 
--- The reading of a typing over the seven qualifiers.
-abbrev pub wholeNodes : Assignment (six .Q) → ℕ → ℕ
-wholeNodes s = nodeQualifier (λ c. code (qualifier c)) (mapAssignment code s)
+-- The reading of a typing over the qualifiers of the machine's table.
+abbrev pub wholeNodes : (m : Machine) → Assignment (ruling m .Q) → ℕ → ℕ
+wholeNodes m s = nodeQualifier (words (m .schemes)) (coded (m .schemes)) (mapAssignment code s)
 
-abbrev pub wholeTypes : Assignment (six .Q) → ℕ → Ty ℕ
-wholeTypes s = nodeType (mapAssignment code s)
+abbrev pub wholeTypes : (m : Machine) → Assignment (ruling m .Q) → ℕ → Ty ℕ
+wholeTypes m s = nodeType (mapAssignment code s)
 
-below-cond : (b : Bool) (x y : ℕ) → x < 7 → y < 7 → cond b x y < 7
-below-cond true x y h l = h
-below-cond false x y h l = l
-
-row-fits : (s : Assignment (six .Q)) (term : Term) (ρ : Qualified (six .Q)) → RowMeets (whole six) s term ρ → RowFits term (wholeNodes s)
-row-fits s (Lam p b) ρ h = tt
-row-fits s (App f a) ρ h = tt
-row-fits s (Op o l r) ρ h =
-    rw (row-qualifier-node (λ c. code (qualifier c)) (mapAssignment code s) l) (rw (code-qualifier (highestOf o) (highest-code o)) at (h .3))
-row-fits s (Var p) ρ h = tt
-row-fits s (Num n) ρ h = tt
-row-fits s (Enc e n) ρ h = tt
+below-cond : (w : ℕ) (b : Bool) (x y : ℕ) → x < w → y < w → cond b x y < w
+below-cond w true x y h l = h
+below-cond w false x y h l = l
 
 module _ (m : Machine) (wf : WellFormed m) (k : ℕ) where
+  sound : Sound (m .schemes)
+  sound = wf .schemes-sound
+
+  few : words (m .schemes) ≤ 9
+  few = sound-few sound
+
   -- Each typing is a reading that meets the rows.
-  pub whole-meets : (s : Assignment (six .Q)) → Typing (whole six) m k s → Meets m k (wholeTypes s) (wholeNodes s)
-  whole-meets s typing = nodes-meet m wf (λ c. code (qualifier c)) (numbered .Fits) k (mapAssignment code s) (weaker-typing whole-numbered typing)
+  pub whole-meets : (s : Assignment (ruling m .Q)) → Typing (whole (ruling m)) m k s → Meets m k (wholeTypes m s) (wholeNodes m s)
+  whole-meets s typing =
+      nodes-meet m wf (coded (m .schemes)) (numbered (m .schemes) .Fits) k (mapAssignment code s) (weaker-typing (whole-numbered (m .schemes) sound) typing)
 
-  pub loose-meets : (s : Assignment (six .Q)) → Typing (unordered six) m k s → Meets m k (wholeTypes s) (wholeNodes s)
-  loose-meets s typing = nodes-meet m wf (λ c. code (qualifier c)) (loose .Fits) k (mapAssignment code s) (weaker-typing unordered-loose typing)
+  pub loose-meets : (s : Assignment (ruling m .Q)) → Typing (unordered (ruling m)) m k s → Meets m k (wholeTypes m s) (wholeNodes m s)
+  loose-meets s typing = nodes-meet m wf (coded (m .schemes)) (loose (m .schemes) .Fits) k (mapAssignment code s) (weaker-typing (unordered-loose (m .schemes)) typing)
 
-  pub nodes-constant : (s : Assignment (six .Q)) → Constant (wholeNodes s)
-  nodes-constant s c h = word-node (λ c. code (qualifier c)) (mapAssignment code s) c h ∙ code-qualifier c h
+  pub nodes-constant : (s : Assignment (ruling m .Q)) → Constant (words (m .schemes)) (wholeNodes m s)
+  nodes-constant s c h = word-node (words (m .schemes)) few (coded (m .schemes)) (mapAssignment code s) c h ∙ coded-same (m .schemes) c h
 
-  pub nodes-coded : (s : Assignment (six .Q)) → Coded (wholeNodes s)
-  nodes-coded s x h = below-cond (ltb x 7) _ _ (code-below (qualifier x)) (below-cond (ltb x 71) _ _ (code-below (s .variable (x - 7))) (code-below (s .row (x - 71) .qualifier)))
-
-  pub whole-fits : (s : Assignment (six .Q)) → Typing (whole six) m k s → FitsAll m k (wholeNodes s)
-  whole-fits s typing i below in-list = row-fits s (termAt m i) (s .row i) (typing .rows-meet i below in-list)
+  pub nodes-coded : (s : Assignment (ruling m .Q)) → Coded (words (m .schemes)) (wholeNodes m s)
+  nodes-coded s x h =
+      below-cond (words (m .schemes)) (ltb x (words (m .schemes))) _ _ (code-below (qualifier (length (m .schemes .names)) x))
+      (below-cond (words (m .schemes)) (ltb x 73) _ _ (code-below (s .variable (x - words (m .schemes)))) (code-below (s .row (x - 73) .qualifier)))
 
   -- No reading, no typing.
-  pub none-erased : ((t : ℕ → Ty ℕ) (v : ℕ → ℕ) → Meets m k t v → ⊥) → ¬ Typable (erased six) m k
+  pub none-erased : ((t : ℕ → Ty ℕ) (v : ℕ → ℕ) → Meets m k t v → ⊥) → ¬ Typable (erased (ruling m)) m k
   none-erased none (s, typing) =
-      none _ _ (nodes-meet m wf (λ c. 0) (blind .Fits) k (mapAssignment (erased-blind .image) s) (weaker-typing erased-blind typing))
+      none _ _ (nodes-meet m wf (λ c. 0) (blind (m .schemes) .Fits) k (mapAssignment (erased-blind (m .schemes) .image) s) (weaker-typing (erased-blind (m .schemes)) typing))
 
-  pub none-unordered : ((t : ℕ → Ty ℕ) (v : ℕ → ℕ) → Constant v → Meets m k t v → ⊥) → ¬ Typable (unordered six) m k
+  pub none-unordered : ((t : ℕ → Ty ℕ) (v : ℕ → ℕ) → Constant (words (m .schemes)) v → Meets m k t v → ⊥) → ¬ Typable (unordered (ruling m)) m k
   none-unordered none (s, typing) = none _ _ (nodes-constant s) (loose-meets s typing)
 
-  pub none-whole : ((t : ℕ → Ty ℕ) (v : ℕ → ℕ) → Constant v → Coded v → Meets m k t v → FitsAll m k v → ⊥) → ¬ Typable (whole six) m k
-  none-whole none (s, typing) = none _ _ (nodes-constant s) (nodes-coded s) (whole-meets s typing) (whole-fits s typing)
-
   -- A reading is a typing.
-  pub some-erased : (t : ℕ → Ty ℕ) → Meets m k t (λ x. 0) → Typable (erased six) m k
+  pub some-erased : (t : ℕ → Ty ℕ) → Meets m k t (λ x. 0) → Typable (erased (ruling m)) m k
   some-erased t meets =
-      weaker-rules blind-erased (assignment m t (λ x. 0), typing-of-meets m wf (λ c. 0) (blind .Fits) k t (λ x. 0) (λ c h. refl) meets (λ i below in-list o l r is. tt))
+      weaker-rules (blind-erased (m .schemes))
+      (assignment m t (λ x. 0), typing-of-meets m wf (λ c. 0) (blind (m .schemes) .Fits) k t (λ x. 0) (λ c h. refl) meets (λ i below in-list o l r is. tt))
 
-  pub some-unordered : (t : ℕ → Ty ℕ) (v : ℕ → ℕ) → Constant v → Meets m k t v → Typable (unordered six) m k
+  pub some-unordered : (t : ℕ → Ty ℕ) (v : ℕ → ℕ) → Constant (words (m .schemes)) v → Meets m k t v → Typable (unordered (ruling m)) m k
   some-unordered t v constant meets =
-      weaker-rules loose-unordered
-      (assignment m t v, typing-of-meets m wf (λ c. code (qualifier c)) (loose .Fits) k t v (λ c h. constant c h ∙ sym (code-qualifier c h)) meets (λ i below in-list o l r is. tt))
+      weaker-rules (loose-unordered (m .schemes))
+      (assignment m t v, typing-of-meets m wf (coded (m .schemes)) (loose (m .schemes) .Fits) k t v (λ c h. constant c h ∙ sym (coded-same (m .schemes) c h)) meets (λ i below in-list o l r is. tt))
 
-  pub whole-typing : (t : ℕ → Ty ℕ) (v : ℕ → ℕ) → Constant v → Meets m k t v → FitsAll m k v → Typing (whole six) m k (mapAssignment qualifier (assignment m t v))
-  whole-typing t v constant meets fits =
-      weaker-typing numbered-whole
-      (typing-of-meets m wf (λ c. code (qualifier c)) (numbered .Fits) k t v (λ c h. constant c h ∙ sym (code-qualifier c h)) meets
-      (λ i below in-list o l r is. subst (λ (term : Term). RowFits term v) is (fits i below in-list)))
+  -- With the ruling of the table, "at or below" in the rows is the table's.
+  module _ (R : List ℕ) (rules : Ruled (m .schemes) R) where
+    row-fits : (s : Assignment (ruling m .Q)) (i : ℕ) (term : Term) (ρ : Qualified (ruling m .Q)) → TermStands (words (m .schemes)) (length (m .params)) i term →
+        RowMeets (whole (ruling m)) s term ρ → RowFits R term (wholeNodes m s)
+    row-fits s i (Lam p b) ρ st h = tt
+    row-fits s i (App f a) ρ st h = tt
+    row-fits s i (Op o l r) ρ st h =
+        let node = row-qualifier-node (words (m .schemes)) few (coded (m .schemes)) (mapAssignment code s) l in
+        let bound : below (m .schemes) (code (s .row l .qualifier)) (highestOf (m .schemes) o) ≡ true =
+        rw (coded-same (m .schemes) (highestOf (m .schemes) o) (highest-code sound o (st .0))) at (h .3) in
+        rw (node, rules .highest-same o (st .0)) (under-same sound rules _ _ (code-below (s .row l .qualifier)) (highest-code sound o (st .0)) ∙ bound)
+    row-fits s i (Var p) ρ st h = tt
+    row-fits s i (Num n) ρ st h = tt
+    row-fits s i (Enc e n) ρ st h = tt
 
-  pub some-whole : (t : ℕ → Ty ℕ) (v : ℕ → ℕ) → Constant v → Meets m k t v → FitsAll m k v → Typable (whole six) m k
-  some-whole t v constant meets fits = (mapAssignment qualifier (assignment m t v), whole-typing t v constant meets fits)
+    pub whole-fits : (s : Assignment (ruling m .Q)) → Typing (whole (ruling m)) m k s → FitsAll R m k (wholeNodes m s)
+    whole-fits s typing i below in-list = row-fits s i (termAt m i) (s .row i) (wf .terms-stand i in-list) (typing .rows-meet i below in-list)
+
+    pub none-whole : ((t : ℕ → Ty ℕ) (v : ℕ → ℕ) → Constant (words (m .schemes)) v → Coded (words (m .schemes)) v → Meets m k t v → FitsAll R m k v → ⊥) → ¬ Typable (whole (ruling m)) m k
+    none-whole none (s, typing) = none _ _ (nodes-constant s) (nodes-coded s) (whole-meets s typing) (whole-fits s typing)
+
+    op-fits : (v : ℕ → ℕ) (i : ℕ) (term : Term) → TermStands (words (m .schemes)) (length (m .params)) i term → RowFits R term v → (o l r : ℕ) → term ≡ Op o l r →
+        below (m .schemes) (v (l + 73)) (highestOf (m .schemes) o) ≡ true
+    op-fits v i term st fits o l r is =
+        let stands : (o < 5) × (l < i) × (r < i) = subst (λ (t : Term). TermStands (words (m .schemes)) (length (m .params)) i t) is st in
+        let bound : under R (v (l + 73)) (highestAt R o) ≡ true = subst (λ (t : Term). RowFits R t v) is fits in
+        let named : under R (v (l + 73)) (highestOf (m .schemes) o) ≡ true = rw (rules .highest-same o (stands .0)) at bound in
+        sym (under-same sound rules _ _ (omega (arith, under-codes R _ _ named .0, rules .words-same)) (highest-code sound o (stands .0))) ∙ named
+
+    pub whole-typing : (t : ℕ → Ty ℕ) (v : ℕ → ℕ) → Constant (words (m .schemes)) v → Meets m k t v → FitsAll R m k v →
+        Typing (whole (ruling m)) m k (mapAssignment (qualifier (length (m .schemes .names))) (assignment m t v))
+    whole-typing t v constant meets fits =
+        weaker-typing (numbered-whole (m .schemes) sound)
+        (typing-of-meets m wf (coded (m .schemes)) (numbered (m .schemes) .Fits) k t v (λ c h. constant c h ∙ sym (coded-same (m .schemes) c h)) meets
+        (λ i below in-list o l r is. op-fits v i (termAt m i) (wf .terms-stand i in-list) (fits i below in-list) o l r is))
+
+    pub some-whole : (t : ℕ → Ty ℕ) (v : ℕ → ℕ) → Constant (words (m .schemes)) v → Meets m k t v → FitsAll R m k v → Typable (whole (ruling m)) m k
+    some-whole t v constant meets fits = (mapAssignment (qualifier (length (m .schemes .names))) (assignment m t v), whole-typing t v constant meets fits)

@@ -6,26 +6,25 @@ use mathlib.Core.Path.{_≡_, refl, sym, ap, subst, _∙_}
 use lib.Dec.{ltb}
 use lib.ListN.{length}
 use borrow.Author.Tests.{lt-ltb, le-ltb, ltb-true}
-use Rattle.scheme.specs.Qualifier.{code, qualifier}
+use Rattle.scheme.specs.Schemes.{words}
 use Rattle.scheme.specs.Operation.{keeps}
-use Rattle.scheme.proofs.Qualifier.{code-qualifier, code-below}
 use Rattle.model.specs.Machine.{Machine, typeAt, paramAt, termAt}
 use Rattle.model.specs.WellFormed.{WellFormed, TypeStands, TermStands}
 use Rattle.model.specs.Typing.{Ty, int, arrow, Rules, Assignment, Typing, Typable, meaning, TypeAgrees, ParamAgrees, RowMeets}
-use Rattle.model.specs.Strength.{whole, unordered, erased, six}
 use Rattle.model.specs.declared.TypeForm.{TypeForm}
 use Rattle.model.specs.declared.TypeForm.the-variants.{Int, Any, Arrow}
 use Rattle.model.specs.declared.Term.{Term}
 use Rattle.model.specs.declared.Term.the-variants.{Lam, App, Op, Var, Num, Enc}
 use Rattle.readings.specs.Nodes.{assignment, free, Meets, RowFits, FitsAll, Constant, Coded}
 use Rattle.readings.proofs.Rows.{meaning-node}
+use Rattle.scheme.proofs.Schemes.{sound-few}
 
 -- The nodes of an assignment.
 abbrev pub nodeType : Assignment ℕ → ℕ → Ty ℕ
 nodeType s x = cond (ltb x 64) (s .type x) (s .row (x - 64) .type)
 
-abbrev pub nodeQualifier : (ℕ → ℕ) → Assignment ℕ → ℕ → ℕ
-nodeQualifier word s x = cond (ltb x 7) (word x) (cond (ltb x 71) (s .variable (x - 7)) (s .row (x - 71) .qualifier))
+abbrev pub nodeQualifier : ℕ → (ℕ → ℕ) → Assignment ℕ → ℕ → ℕ
+nodeQualifier w word s x = cond (ltb x w) (word x) (cond (ltb x 73) (s .variable (x - w)) (s .row (x - 73) .qualifier))
 
 module _ (s : Assignment ℕ) where
   pub type-node : (x : ℕ) → x < 64 → nodeType s x ≡ s .type x
@@ -34,33 +33,36 @@ module _ (s : Assignment ℕ) where
   pub row-type-node : (i : ℕ) → nodeType s (i + 64) ≡ s .row i .type
   row-type-node i = let e : i + 64 - 64 ≡ i = omega arith in rw (le-ltb (i + 64) 64 (omega arith), e)
 
-module _ (word : ℕ → ℕ) (s : Assignment ℕ) where
-  pub word-node : (c : ℕ) → c < 7 → nodeQualifier word s c ≡ word c
-  word-node c h = rw (lt-ltb c 7 h)
+module _ (w : ℕ) (few : w ≤ 9) (word : ℕ → ℕ) (s : Assignment ℕ) where
+  pub word-node : (c : ℕ) → c < w → nodeQualifier w word s c ≡ word c
+  word-node c h = rw (lt-ltb c w h)
 
-  pub row-qualifier-node : (i : ℕ) → nodeQualifier word s (i + 71) ≡ s .row i .qualifier
-  row-qualifier-node i = let e : i + 71 - 71 ≡ i = omega arith in rw (le-ltb (i + 71) 7 (omega arith), le-ltb (i + 71) 71 (omega arith), e)
+  pub row-qualifier-node : (i : ℕ) → nodeQualifier w word s (i + 73) ≡ s .row i .qualifier
+  row-qualifier-node i = let e : i + 73 - 73 ≡ i = omega arith in rw (le-ltb (i + 73) w (omega arith), le-ltb (i + 73) 73 (omega arith), e)
 
-  -- A code up to 70 means what its node has.
-  pub code-node : (c : ℕ) → c ≤ 70 → nodeQualifier word s c ≡ cond (ltb c 7) (word c) (s .variable (c - 7))
-  code-node c h = rw (lt-ltb c 71 (omega arith))
+  -- A code means what its node has.
+  pub code-node : (c : ℕ) → c < w + 64 → nodeQualifier w word s c ≡ cond (ltb c w) (word c) (s .variable (c - w))
+  code-node c h = rw (lt-ltb c 73 (omega arith))
 
 -- An assignment over numbers that types the rows, read at its nodes, meets them.
 module _ (m : Machine) (wf : WellFormed m) (word : ℕ → ℕ) (Fits : ℕ → ℕ → Type 0) (k : ℕ) (s : Assignment ℕ) where
+  few : words (m .schemes) ≤ 9
+  few = sound-few (wf .schemes-sound)
+
   abbrev rules : Rules
-  rules = record { Q = ℕ; words = 7; word = word; Fits = Fits }
+  rules = record { Q = ℕ; words = words (m .schemes); word = word; Fits = Fits }
 
   abbrev t : ℕ → Ty ℕ
   t = nodeType s
 
   abbrev v : ℕ → ℕ
-  v = nodeQualifier word s
+  v = nodeQualifier (words (m .schemes)) word s
 
   -- What a code means is the same on both sides.
-  meaning-same : (c : ℕ) → c ≤ 70 → meaning rules s c ≡ meaning (free v) (assignment m t v) c
-  meaning-same c h = sym (meaning-node m t v c ∙ code-node word s c h)
+  meaning-same : (c : ℕ) → c < words (m .schemes) + 64 → meaning rules s c ≡ meaning (free m v) (assignment m t v) c
+  meaning-same c h = sym (meaning-node m t v c ∙ code-node (words (m .schemes)) few word s c h)
 
-  type-same : (x : ℕ) (form : TypeForm) → x < 64 → TypeStands x form → TypeAgrees rules s form (s .type x) → TypeAgrees (free v) (assignment m t v) form (t x)
+  type-same : (x : ℕ) (form : TypeForm) → x < 64 → TypeStands (words (m .schemes)) x form → TypeAgrees rules s form (s .type x) → TypeAgrees (free m v) (assignment m t v) form (t x)
   type-same x Int h st e = type-node s x h ∙ e
   type-same x Any h st e = tt
   type-same x (Arrow q a q′ b) h st e =
@@ -76,28 +78,28 @@ module _ (m : Machine) (wf : WellFormed m) (word : ℕ → ℕ) (Fits : ℕ → 
     param-type p h =
         typing .params-agree p h .1 ∙ sym (type-node s _ (omega (arith, wf .params-stand p h .1, wf .types-fit)))
 
-    row-same : (i : ℕ) (term : Term) → TermStands (length (m .params)) i term → RowMeets rules s term (s .row i) →
-        RowMeets (free v) (assignment m t v) term (assignment m t v .row i)
+    row-same : (i : ℕ) (term : Term) → TermStands (words (m .schemes)) (length (m .params)) i term → RowMeets rules s term (s .row i) →
+        RowMeets (free m v) (assignment m t v) term (assignment m t v .row i)
     row-same i (Lam p b) st h = (
-      cc (h .0, row-qualifier-node word s i, word-node word s 0 (omega arith)),
-      cc (h .1, row-type-node s i, param-qualifier p (st .0), param-type p (st .0), row-qualifier-node word s b, row-type-node s b),
+      cc (h .0, row-qualifier-node (words (m .schemes)) few word s i, word-node (words (m .schemes)) few word s 0 (omega arith)),
+      cc (h .1, row-type-node s i, param-qualifier p (st .0), param-type p (st .0), row-qualifier-node (words (m .schemes)) few word s b, row-type-node s b),
     )
-    row-same i (App f a) st h = cc (h, row-type-node s f, row-qualifier-node word s a, row-type-node s a, row-qualifier-node word s i, row-type-node s i)
+    row-same i (App f a) st h = cc (h, row-type-node s f, row-qualifier-node (words (m .schemes)) few word s a, row-type-node s a, row-qualifier-node (words (m .schemes)) few word s i, row-type-node s i)
     row-same i (Op o l r) st h = (
       cc (h .0, row-type-node s l),
       cc (h .1, row-type-node s r),
-      cc (h .2, row-qualifier-node word s l, row-qualifier-node word s r),
+      cc (h .2, row-qualifier-node (words (m .schemes)) few word s l, row-qualifier-node (words (m .schemes)) few word s r),
       tt,
-      cc (h .4, row-qualifier-node word s i, row-qualifier-node word s l, word-node word s 0 (omega arith)),
+      cc (h .4, row-qualifier-node (words (m .schemes)) few word s i, row-qualifier-node (words (m .schemes)) few word s l, word-node (words (m .schemes)) few word s 0 (omega arith)),
       cc (h .5, row-type-node s i),
     )
     row-same i (Var p) st h =
-        (cc (h .0, row-qualifier-node word s i, param-qualifier p st), cc (h .1, row-type-node s i, param-type p st))
+        (cc (h .0, row-qualifier-node (words (m .schemes)) few word s i, param-qualifier p st), cc (h .1, row-type-node s i, param-type p st))
     row-same i (Num n) st h = cc (h, row-type-node s i)
     row-same i (Enc e n) st h =
-        (cc (h .0, row-qualifier-node word s i, word-node word s e (omega (arith, st .1))), cc (h .1, row-type-node s i))
+        (cc (h .0, row-qualifier-node (words (m .schemes)) few word s i, word-node (words (m .schemes)) few word s e (omega (arith, st .1))), cc (h .1, row-type-node s i))
 
-    pub nodes-meet : Meets m k (nodeType s) (nodeQualifier word s)
+    pub nodes-meet : Meets m k (nodeType s) (nodeQualifier (words (m .schemes)) word s)
     nodes-meet =
         record {
           types-agree = λ x h. type-same x (typeAt m x) (omega (arith, wf .types-fit)) (wf .types-stand x h) (typing .types-agree x h);
@@ -107,32 +109,32 @@ module _ (m : Machine) (wf : WellFormed m) (word : ℕ → ℕ) (Fits : ℕ → 
 
 -- A reading that gives the constants their words, and meets the bounds that the rules ask, is a typing of those rules.
 module _ (m : Machine) (wf : WellFormed m) (word : ℕ → ℕ) (Fits : ℕ → ℕ → Type 0) (k : ℕ) (t : ℕ → Ty ℕ) (v : ℕ → ℕ)
-    (words : (c : ℕ) → c < 7 → v c ≡ word c) (meets : Meets m k t v) where
+    (own : (c : ℕ) → c < words (m .schemes) → v c ≡ word c) (meets : Meets m k t v) where
   abbrev worded : Rules
-  worded = record { Q = ℕ; words = 7; word = word; Fits = Fits }
+  worded = record { Q = ℕ; words = words (m .schemes); word = word; Fits = Fits }
 
   -- Codes mean the same with the words in place of the nodes.
-  meaning-worded : (c : ℕ) → meaning worded (assignment m t v) c ≡ meaning (free v) (assignment m t v) c
-  meaning-worded c = go (ltb c 7) refl
+  meaning-worded : (c : ℕ) → meaning worded (assignment m t v) c ≡ meaning (free m v) (assignment m t v) c
+  meaning-worded c = go (ltb c (words (m .schemes))) refl
     where
-      go : (b : Bool) → ltb c 7 ≡ b → cond (ltb c 7) (word c) (v (c - 7 + 7)) ≡ cond (ltb c 7) (v c) (v (c - 7 + 7))
-      go true e = rw e (sym (words c (ltb-true c 7 e)))
+      go : (b : Bool) → ltb c (words (m .schemes)) ≡ b → cond (ltb c (words (m .schemes))) (word c) (v (c - words (m .schemes) + words (m .schemes))) ≡ cond (ltb c (words (m .schemes))) (v c) (v (c - words (m .schemes) + words (m .schemes)))
+      go true e = rw e (sym (own c (ltb-true c (words (m .schemes)) e)))
       go false e = rw e
 
-  type-worded : (form : TypeForm) (τ : Ty ℕ) → TypeAgrees (free v) (assignment m t v) form τ → TypeAgrees worded (assignment m t v) form τ
+  type-worded : (form : TypeForm) (τ : Ty ℕ) → TypeAgrees (free m v) (assignment m t v) form τ → TypeAgrees worded (assignment m t v) form τ
   type-worded Int τ e = e
   type-worded Any τ e = tt
   type-worded (Arrow q a q′ b) τ e = cc (e, meaning-worded q, meaning-worded q′)
 
-  module _ (fits : (i : ℕ) → i < k → i < length (m .terms) → (o l r : ℕ) → termAt m i ≡ Op o l r → Fits o (v (l + 71))) where
-    row-worded : (i : ℕ) (term : Term) → termAt m i ≡ term → i < k → i < length (m .terms) → TermStands (length (m .params)) i term →
-        RowMeets (free v) (assignment m t v) term (assignment m t v .row i) → RowMeets worded (assignment m t v) term (assignment m t v .row i)
-    row-worded i (Lam p b) is below in-list st h = (h .0 ∙ words 0 (omega arith), h .1)
+  module _ (fits : (i : ℕ) → i < k → i < length (m .terms) → (o l r : ℕ) → termAt m i ≡ Op o l r → Fits o (v (l + 73))) where
+    row-worded : (i : ℕ) (term : Term) → termAt m i ≡ term → i < k → i < length (m .terms) → TermStands (words (m .schemes)) (length (m .params)) i term →
+        RowMeets (free m v) (assignment m t v) term (assignment m t v .row i) → RowMeets worded (assignment m t v) term (assignment m t v .row i)
+    row-worded i (Lam p b) is below in-list st h = (h .0 ∙ own 0 (omega arith), h .1)
     row-worded i (App f a) is below in-list st h = h
-    row-worded i (Op o l r) is below in-list st h = (h .0, h .1, h .2, fits i below in-list o l r is, cc (h .4, words 0 (omega arith)), h .5)
+    row-worded i (Op o l r) is below in-list st h = (h .0, h .1, h .2, fits i below in-list o l r is, cc (h .4, own 0 (omega arith)), h .5)
     row-worded i (Var p) is below in-list st h = h
     row-worded i (Num n) is below in-list st h = h
-    row-worded i (Enc e n) is below in-list st h = (h .0 ∙ words e (omega (arith, st .1)), h .1)
+    row-worded i (Enc e n) is below in-list st h = (h .0 ∙ own e (omega (arith, st .1)), h .1)
 
     pub typing-of-meets : Typing worded m k (assignment m t v)
     typing-of-meets =

@@ -19,28 +19,28 @@ default (x ∷ l) zero d d′ h = refl
 default (x ∷ l) (suc k) d d′ h = default l k d d′ (omega arith)
 
 -- A variable's line.
-module _ (k code : ℕ) where
-  listed : code < 7 → variableText k code ≡ line (bytes "G" ∷ decimal k ∷ qualifierWord code ∷ [])
+module _ (names : List (List ℕ)) (k code : ℕ) where
+  listed : code < 9 → variableText names k code ≡ line (bytes "G" ∷ decimal k ∷ qualifierWord names code ∷ [])
   unfolding variableText
-  listed h = simp (lt-ltb code 7 h)
+  listed h = simp (lt-ltb code 9 h)
 
-  unlisted : 7 ≤ code → variableText k code ≡ []
+  unlisted : 9 ≤ code → variableText names k code ≡ []
   unfolding variableText
-  unlisted h = simp (le-ltb code 7 h)
+  unlisted h = simp (le-ltb code 9 h)
 
-  pub listed-room : {l : List ℕ} {i : ℕ} → code < 7 → Room l i (variableText k code) → Room l i (line (bytes "G" ∷ decimal k ∷ qualifierWord code ∷ []))
+  pub listed-room : {l : List ℕ} {i : ℕ} → code < 9 → Room l i (variableText names k code) → Room l i (line (bytes "G" ∷ decimal k ∷ qualifierWord names code ∷ []))
   listed-room h p = rw (listed h) at p
 
   pub listed-wrote : {l l′ : List ℕ} {i i′ : ℕ}
-      → code < 7 → Wrote l i (line (bytes "G" ∷ decimal k ∷ qualifierWord code ∷ [])) l′ i′ → Wrote l i (variableText k code) l′ i′
+      → code < 9 → Wrote l i (line (bytes "G" ∷ decimal k ∷ qualifierWord names code ∷ [])) l′ i′ → Wrote l i (variableText names k code) l′ i′
   listed-wrote h p = rw (listed h) p
 
-  pub unlisted-wrote : (l : List ℕ) (i : ℕ) → 7 ≤ code → Wrote l i (variableText k code) l i
+  pub unlisted-wrote : (l : List ℕ) (i : ℕ) → 9 ≤ code → Wrote l i (variableText names k code) l i
   unlisted-wrote l i h = rw (unlisted h) (wrote-nothing l i)
 
 -- A code that is read within its list.
-pub variable-read : (variables : List ℕ) (k : ℕ) → k < length variables → variableAt variables k ≡ variableText k (getD variables k 0)
-variable-read variables k h = ap (variableText k) (default variables k 7 0 h)
+pub variable-read : (names : List (List ℕ)) (variables : List ℕ) (k : ℕ) → k < length variables → variableAt names variables k ≡ variableText names k (getD variables k 0)
+variable-read names variables k h = ap (variableText names k) (default variables k 9 0 h)
 
 -- A loop over the lines of the numbers from i to n.
 lines-more : (f : ℕ → List ℕ) (i n : ℕ) → i < n → lines f i (n - i) ≡ f i ++ lines f (i + 1) (n - (i + 1))

@@ -35,17 +35,17 @@ pub record Spells (array : List ℕ) (size : ℕ) (word : List ℕ) : Type 0 whe
 unfoldable pub pairText : List ℕ → ℕ → ℕ → List ℕ
 pairText word a b = line (word ∷ decimal a ∷ decimal b ∷ [])
 
--- `G,k,word`, or nothing where the code is no word's
-unfoldable pub variableText : ℕ → ℕ → List ℕ
-variableText k code = cond (ltb code 7) (line (bytes "G" ∷ decimal k ∷ qualifierWord code ∷ [])) []
+-- `G,k,word`, or nothing where the code is no word's; the names are the schemes'
+unfoldable pub variableText : List (List ℕ) → ℕ → ℕ → List ℕ
+variableText names k code = cond (ltb code 9) (line (bytes "G" ∷ decimal k ∷ qualifierWord names code ∷ [])) []
 
 -- `P,p,word,shape` or `E,i,word,shape`
-unfoldable pub slotText : ℕ → ℕ → ℕ → ℕ → List ℕ
-slotText tag i code shape = line ((tag ∷ []) ∷ decimal i ∷ qualifierWord code ∷ shapeWord (shapeOfCode shape) ∷ [])
+unfoldable pub slotText : List (List ℕ) → ℕ → ℕ → ℕ → ℕ → List ℕ
+slotText names tag i code shape = line ((tag ∷ []) ∷ decimal i ∷ qualifierWord names code ∷ shapeWord (shapeOfCode shape) ∷ [])
 
 -- The same, with the codes from lists.
-abbrev pub variableAt : List ℕ → ℕ → List ℕ
-variableAt variables k = variableText k (getD variables k 7)
+abbrev pub variableAt : List (List ℕ) → List ℕ → ℕ → List ℕ
+variableAt names variables k = variableText names k (getD variables k 9)
 
-abbrev pub slotAt : ℕ → List ℕ → List ℕ → ℕ → List ℕ
-slotAt tag words shapes i = slotText tag i (getD words i 0) (getD shapes i 0)
+abbrev pub slotAt : List (List ℕ) → ℕ → List ℕ → List ℕ → ℕ → List ℕ
+slotAt names tag codes shapes i = slotText names tag i (getD codes i 0) (getD shapes i 0)

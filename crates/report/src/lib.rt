@@ -1,33 +1,19 @@
-// Writes the report of a typed program into a lent buffer, from the codes of its words and shapes.
+// Writes the report of a typed program into a lent buffer, from the codes of its words and shapes. The names of the schemes are parted by commas.
+use line::fields;
 ghost use mathlib.Core.List.{[], _∷_, _++_};
 ghost use Prim.Native.Nat.{_+_, _≤_, _<_};
 ghost use lib.ListN.{length, take};
 ghost use Rattle.model.specs.Lists.{bytes};
 ghost use Rattle.model.specs.Number.{decimal};
+ghost use Rattle.model.specs.Line.{fields};
 ghost use Rattle.model.specs.Word.{qualifierWord};
 ghost use Rattle.model.specs.Report.{lines, shapeWord};
 ghost use Rattle.report.specs.Codes.{shapeOfCode, codesOf};
 ghost use Rattle.report.specs.Writing.{Room, Wrote, Spells, pairText, variableText, slotText, variableAt, slotAt};
-ghost use Rattle.report.specs.Written.{Written};
+ghost use Rattle.report.specs.Written.{Short, Written};
 
 // A word of the report: bytes that begin with it, and how many of them it has.
 struct Word([u8; 5], usize);
-
-// A qualifier's word: no bytes past the seven codes.
-fn qualifier_word(code: u8) -> Word
-    ensures { λ r. ⌜ Spells (r .0) (r .1) (qualifierWord code) ⌝ }
-{
-    match code {
-        0 => Word(*b"PLAIN", 5),
-        1 => Word(*b"FHE  ", 3),
-        2 => Word(*b"OP   ", 2),
-        3 => Word(*b"DET  ", 3),
-        4 => Word(*b"MH   ", 2),
-        5 => Word(*b"AH   ", 2),
-        6 => Word(*b"RAND ", 4),
-        _ => Word(*b"     ", 0),
-    }
-}
 
 // A shape's word: ANY for every code but two.
 fn shape_word(code: u8) -> Word
@@ -98,12 +84,14 @@ fn write_word(buffer: &mut [u8], at: usize, word: Word, end: u8) -> usize
 }
 
 // Writes the word of a qualifier's code and the byte that ends its field.
-fn write_qualifier(buffer: &mut [u8], at: usize, code: u8, end: u8) -> usize
-    requires { ⌜ Room (now buffer) at (qualifierWord code ++ (end ∷ [])) ⌝ }
-    ensures { λ r. ⌜ Wrote (now (buffer .entry)) at (qualifierWord code ++ (end ∷ [])) (now (buffer .exit)) r ⌝ }
+fn write_qualifier(buffer: &mut [u8], at: usize, names: &[u8], code: u8, end: u8) -> usize
+    requires { ⌜ Room (now buffer) at (qualifierWord (fields (now names)) code ++ (end ∷ [])) ⌝ }
+    ensures { λ r. ⌜ Wrote (now (buffer .entry)) at (qualifierWord (fields (now (names .entry))) code ++ (end ∷ [])) (now (buffer .exit)) r ⌝ }
 {
-    let word = qualifier_word(code);
-    write_word(buffer, at, word, end)
+    if code == 0 {
+        return write_field(buffer, at, b"PLAIN", end);
+    }
+    write_field(buffer, at, fields::field(names, code as usize - 1), end)
 }
 
 // Writes the word of a shape's code and the byte that ends its field.
@@ -134,39 +122,47 @@ fn write_counts(buffer: &mut [u8], at: usize, params: usize, rows: usize) -> usi
 }
 
 // Writes the line of a variable whose code is a word's.
-fn write_variable(buffer: &mut [u8], at: usize, k: usize, code: u8) -> usize
-    requires { ⌜ Room (now buffer) at (variableText k code) ⌝ }
-    ensures { λ r. ⌜ Wrote (now (buffer .entry)) at (variableText k code) (now (buffer .exit)) r ⌝ }
+fn write_variable(buffer: &mut [u8], at: usize, names: &[u8], k: usize, code: u8) -> usize
+    requires { ⌜ Room (now buffer) at (variableText (fields (now names)) k code) ⌝ }
+    ensures { λ r. ⌜ Wrote (now (buffer .entry)) at (variableText (fields (now (names .entry))) k code) (now (buffer .exit)) r ⌝ }
 {
-    if code < 7 {
+    if code < 9 {
         let number = write_field(buffer, at, b"G", b',');
         let word = write_number(buffer, number, k, b',');
-        return write_qualifier(buffer, word, code, b'\n');
+        return write_qualifier(buffer, word, names, code, b'\n');
     }
     at
 }
 
 // Writes the line of a parameter or a row.
-fn write_slot(buffer: &mut [u8], at: usize, tag: u8, i: usize, code: u8, shape: u8) -> usize
-    requires { ⌜ Room (now buffer) at (slotText tag i code shape) ⌝ }
-    ensures { λ r. ⌜ Wrote (now (buffer .entry)) at (slotText tag i code shape) (now (buffer .exit)) r ⌝ }
+fn write_slot(
+    buffer: &mut [u8],
+    at: usize,
+    names: &[u8],
+    tag: u8,
+    i: usize,
+    code: u8,
+    shape: u8,
+) -> usize
+    requires { ⌜ Room (now buffer) at (slotText (fields (now names)) tag i code shape) ⌝ }
+    ensures { λ r. ⌜ Wrote (now (buffer .entry)) at (slotText (fields (now (names .entry))) tag i code shape) (now (buffer .exit)) r ⌝ }
 {
     let letter = [tag];
     let number = write_field(buffer, at, &letter, b',');
     let word = write_number(buffer, number, i, b',');
-    let last = write_qualifier(buffer, word, code, b',');
+    let last = write_qualifier(buffer, word, names, code, b',');
     write_shape(buffer, last, shape, b'\n')
 }
 
 // Writes the lines of the variables, rising.
-fn write_variables(buffer: &mut [u8], at: usize, variables: &[u8]) -> usize
-    requires { ⌜ (64 ≤ length (now variables)) × Room (now buffer) at (lines (variableAt (now variables)) 0 64) ⌝ }
-    ensures { λ r. ⌜ Wrote (now (buffer .entry)) at (lines (variableAt (now (variables .entry))) 0 64) (now (buffer .exit)) r ⌝ }
+fn write_variables(buffer: &mut [u8], at: usize, names: &[u8], variables: &[u8]) -> usize
+    requires { ⌜ (64 ≤ length (now variables)) × Room (now buffer) at (lines (variableAt (fields (now names)) (now variables)) 0 64) ⌝ }
+    ensures { λ r. ⌜ Wrote (now (buffer .entry)) at (lines (variableAt (fields (now (names .entry))) (now (variables .entry))) 0 64) (now (buffer .exit)) r ⌝ }
 {
     let mut next = at;
     let mut k = 0;
     while k < 64 {
-        next = write_variable(buffer, next, k, variables[k]);
+        next = write_variable(buffer, next, names, k, variables[k]);
         k += 1;
     }
     next
@@ -176,27 +172,29 @@ fn write_variables(buffer: &mut [u8], at: usize, variables: &[u8]) -> usize
 fn write_slots(
     buffer: &mut [u8],
     at: usize,
+    names: &[u8],
     tag: u8,
-    words: &[u8],
+    codes: &[u8],
     shapes: &[u8],
     count: usize,
 ) -> usize
-    requires { ⌜ (count ≤ length (now words)) × (count ≤ length (now shapes)) × Room (now buffer) at (lines (slotAt tag (now words) (now shapes)) 0 count) ⌝ }
-    ensures { λ r. ⌜ Wrote (now (buffer .entry)) at (lines (slotAt tag (now (words .entry)) (now (shapes .entry))) 0 count) (now (buffer .exit)) r ⌝ }
+    requires { ⌜ (count ≤ length (now codes)) × (count ≤ length (now shapes)) × Room (now buffer) at (lines (slotAt (fields (now names)) tag (now codes) (now shapes)) 0 count) ⌝ }
+    ensures { λ r. ⌜ Wrote (now (buffer .entry)) at (lines (slotAt (fields (now (names .entry))) tag (now (codes .entry)) (now (shapes .entry))) 0 count) (now (buffer .exit)) r ⌝ }
 {
     let mut next = at;
     let mut i = 0;
     while i < count {
-        next = write_slot(buffer, next, tag, i, words[i], shapes[i]);
+        next = write_slot(buffer, next, names, tag, i, codes[i], shapes[i]);
         i += 1;
     }
     next
 }
 
 // Writes the report of any machine that the codes and the counts match, and returns its length. Any codes will do: a variable is listed where
-// its code is below 7.
+// its code is below 9.
 pub fn write(
     buffer: &mut [u8],
+    names: &[u8],
     variables: &[u8; 64],
     param_words: &[u8; 64],
     param_shapes: &[u8; 64],
@@ -205,13 +203,21 @@ pub fn write(
     params: usize,
     rows: usize,
 ) -> usize
-    requires { ⌜ (params ≤ 64) × (rows ≤ 256) × (6280 ≤ length (now buffer)) ⌝ }
-    ensures { λ r. ⌜ Written
+    requires { ⌜ Short (fields (now names)) ⌝ ∗ ⌜ (params ≤ 64) × (rows ≤ 256) × (6280 ≤ length (now buffer)) ⌝ }
+    ensures { λ r. ⌜ Written (fields (now (names .entry)))
         (codesOf (now (variables .entry)) (now («param_words» .entry)) (now («param_shapes» .entry)) (now («row_words» .entry)) (now («row_shapes» .entry)))
         params rows (now (buffer .entry)) (now (buffer .exit)) r ⌝ }
 {
     let first = write_counts(buffer, 0, params, rows);
-    let second = write_variables(buffer, first, variables);
-    let third = write_slots(buffer, second, b'P', param_words, param_shapes, params);
-    write_slots(buffer, third, b'E', row_words, row_shapes, rows)
+    let second = write_variables(buffer, first, names, variables);
+    let third = write_slots(
+        buffer,
+        second,
+        names,
+        b'P',
+        param_words,
+        param_shapes,
+        params,
+    );
+    write_slots(buffer, third, names, b'E', row_words, row_shapes, rows)
 }

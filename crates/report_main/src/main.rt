@@ -3,6 +3,9 @@
 // A byte that no report has: the buffers are filled with it.
 const FILL: u8 = b'#';
 
+// The names of the built-in six, in the order of their codes.
+const NAMES: [u8; 21] = *b"FHE,OP,DET,MH,AH,RAND";
+
 // The bytes of a part of the buffer go to standard output.
 fn print(buffer: &[u8], from: usize, to: usize) {
     if from <= to {
@@ -37,10 +40,10 @@ fn print_summary(buffer: &[u8], size: usize) {
     io::write_all(1, b" bytes unchanged\n");
 }
 
-// Program A: one variable, one parameter and four rows, in AH but for the last, which is PLAIN and an ARROW.
+// Program A: one variable (9 lists none), one parameter and four rows, in AH but for the last, which is PLAIN and an ARROW.
 fn program_a() {
     let mut buffer = [FILL; 6400];
-    let mut variables = [7u8; 64];
+    let mut variables = [9u8; 64];
     let mut row_words = [5u8; 256];
     let mut row_shapes = [0u8; 256];
     variables[0] = 5;
@@ -48,6 +51,7 @@ fn program_a() {
     row_shapes[3] = 1;
     let size = report::write(
         &mut buffer,
+        &NAMES,
         &variables,
         &[5u8; 64],
         &[0u8; 64],
@@ -65,6 +69,7 @@ fn longest() {
     let mut buffer = [FILL; 6400];
     let size = report::write(
         &mut buffer,
+        &NAMES,
         &[0u8; 64],
         &[0u8; 64],
         &[1u8; 64],

@@ -7,8 +7,8 @@ use mathlib.Core.Path.{_≡_, refl, sym, ap, subst, _∙_}
 use lib.ListN.{set}
 use lib.Dec.{ltb}
 use borrow.Author.Tests.{lt-ltb}
-use Rattle.scheme.specs.Order.{atOrBelow}
-use Rattle.scheme.specs.Operation.{keeps, resultOf, highestOf}
+use Rattle.scheme.specs.Rule.{wordsAt, topAt, highestAt, under, Lattice}
+use Rattle.scheme.specs.Operation.{keeps, resultOf}
 use Rattle.model.specs.Typing.{Ty, int}
 use Rattle.model.specs.declared.Term.the-variants.{Op}
 use Rattle.forest.specs.Forest.{up, here, Hung}
@@ -59,19 +59,19 @@ reduced-beside one two =
       outof = λ t v reads _. let last = two .outof t v reads tt in let first = one .outof t v (last .0) tt in (first .0, (first .1, last .1));
     }
 
-module _ {i l r : ℕ} {u k p b : List ℕ} (o : ℕ) (stands : (i < 256) × (l < i) × (r < i)) (types : TypeClasses u k) (classes : Classes p b) where
+module _ {i l r : ℕ} {R u k p b : List ℕ} (o : ℕ) (stands : (i < 256) × (l < i) × (r < i) × (o < 5)) (types : TypeClasses u k) (classes : Classes R p b) where
   abbrev Holds : (ℕ → Ty ℕ) → (ℕ → ℕ) → Type 0
   Holds = RowHolds i (Op o l r) 0 0
 
   abbrev Fits : (ℕ → ℕ) → Type 0
-  Fits = RowFits (Op o l r)
+  Fits = RowFits R (Op o l r)
 
   module _ {u₁ k₁ : List ℕ} {one : Bool} (first : MadeInt u k u₁ k₁ (l + 64) one) where
     unused-first : {n : ℕ} (kids : List ℕ) → i + 64 ≡ n → Unused n u k kids → Unused n u₁ k₁ kids
     unused-first {n} kids e = first .stays n kids (omega arith) (omega arith)
 
     -- The left operand is an arrow.
-    pub left-clash : one ≡ false → (kids : List ℕ) → Ready i kids u k p b → Stepped i kids u k p b u₁ k₁ p b Holds Fits Shapes
+    pub left-clash : one ≡ false → (kids : List ℕ) → Ready R i kids u k p b → Stepped R i kids u k p b u₁ k₁ p b Holds Fits Shapes
     left-clash clashed kids ready =
         let clash = first .clash clashed kids in
         (λ t v reads e. clash .0 t v reads (e .0), clash .1, unused-more (unused-first kids refl (ready .types)) (omega arith))
@@ -85,7 +85,7 @@ module _ {i l r : ℕ} {u k p b : List ℕ} (o : ℕ) (stands : (i < 256) × (l 
         unused-second kids unused = second .stays (i + 64) kids (omega arith) (omega arith) (unused-first kids refl unused)
 
         -- The right operand is an arrow.
-        pub right-clash : two ≡ false → (kids : List ℕ) → Ready i kids u k p b → Stepped i kids u k p b u₂ k₂ p b Holds Fits Shapes
+        pub right-clash : two ≡ false → (kids : List ℕ) → Ready R i kids u k p b → Stepped R i kids u k p b u₂ k₂ p b Holds Fits Shapes
         right-clash clashed kids ready =
             let before = first .made made kids in
             let clash = second .clash clashed kids in (
@@ -114,38 +114,38 @@ module _ {i l r : ℕ} {u k p b : List ℕ} (o : ℕ) (stands : (i < 256) × (l 
 
           -- The qualifiers that the row asks for.
           abbrev Alikes : (ℕ → ℕ) → Type 0
-          Alikes v = (v (r + 71) ≡ v (l + 71)) × (v (i + 71) ≡ v (resultOf o (l + 71)))
+          Alikes v = (v (r + 73) ≡ v (l + 73)) × (v (i + 73) ≡ v (resultOf o (l + 73)))
 
           taken : (kids : List ℕ) → Unused (i + 64) u k kids → Taken kids u k u₂ k₃ Holds Alikes
           taken kids unused =
               taken-beside (all-int kids unused)
-              (λ t v e. (((e .0, e .1), e .4), (e .2, e .3 ∙ sym (result-node o (l + 71) v))))
-              (λ t v f q. (f .0 .0, f .0 .1, q .0, q .1 ∙ result-node o (l + 71) v, f .1))
+              (λ t v e. (((e .0, e .1), e .4), (e .2, e .3 ∙ sym (result-node o (l + 73) v))))
+              (λ t v f q. (f .0 .0, f .0 .1, q .0, q .1 ∙ result-node o (l + 73) v, f .1))
 
-          module _ {p₁ b₁ : List ℕ} {class : ℕ} (answer : United p b p₁ b₁ (r + 71) (l + 71) (ltb class 327) × Class p₁ b b₁ (l + 71) class) where
+          module _ {p₁ b₁ : List ℕ} {class : ℕ} (answer : United R p b p₁ b₁ (r + 73) (l + 73) (ltb class 329) × Class p₁ b b₁ (l + 73) class) where
             -- The operands have two constants.
-            pub operands-apart : class ≡ 327 → (kids : List ℕ) → Ready i kids u k p b → Stepped i kids u k p b u₂ k₃ p₁ b₁ Holds Fits Apart
+            pub operands-apart : class ≡ 329 → (kids : List ℕ) → Ready R i kids u k p b → Stepped R i kids u k p b u₂ k₃ p₁ b₁ Holds Fits Apart
             operands-apart none kids ready = (
               parted (taken kids (ready .types)) (refl, refl) (λ v constant linked q. answer .0 .clash (no-class none) v constant linked (q .0)),
               unused-after kids (ready .types),
             )
 
-            module _ (some : class ≡ 327 → ⊥) where
-              node : class < 327
+            module _ (some : class ≡ 329 → ⊥) where
+              node : class < 329
               node = class-node (answer .1) some
 
-              below : class < i + 71
+              below : class < i + 73
               below = omega (arith, answer .1 .low node)
 
-              united : United p b p₁ b₁ (r + 71) (l + 71) true
-              united = rw (lt-ltb class 327 node) at (answer .0)
+              united : United R p b p₁ b₁ (r + 73) (l + 73) true
+              united = rw (lt-ltb class 329 node) at (answer .0)
 
-              module _ {result : ℕ} {p₂ : List ℕ} (is : result ≡ resultOf o class) (under : p₂ ≡ set p₁ (i + 71) result) (untouched : Untouched (i + 71) p b) where
-                untouched-first : Untouched (i + 71) p₁ b₁
-                untouched-first = united .stays (i + 71) (omega arith) (omega arith) untouched
+              module _ {result : ℕ} {p₂ : List ℕ} (is : result ≡ resultOf o class) (placed : p₂ ≡ set p₁ (i + 73) result) (untouched : Untouched R (i + 73) p b) where
+                untouched-first : Untouched R (i + 73) p₁ b₁
+                untouched-first = united .stays (i + 73) (omega arith) (omega arith) untouched
 
                 -- The result is a root, so the row's node is put under it as it is.
-                hung : Hung p₁ p₂ (i + 71) result
+                hung : Hung p₁ p₂ (i + 73) result
                 hung =
                     record {
                       root = result;
@@ -154,50 +154,50 @@ module _ {i l r : ℕ} {u k p b : List ℕ} (o : ℕ) (stands : (i < 256) × (l 
                         root = result-one (λ x. up p₁ x ≡ x) o class is (answer .1 .root node) (united .classes .constants 0 (omega arith));
                         reached = here;
                       };
-                      under = under;
+                      under = placed;
                     }
 
-                result-below : result < i + 71
-                result-below = result-one (λ x. x < i + 71) o class is below (omega arith)
+                result-below : result < i + 73
+                result-below = result-one (λ x. x < i + 73) o class is below (omega arith)
 
-                new-result : United p₁ b₁ p₂ b₁ (i + 71) result true
+                new-result : United R p₁ b₁ p₂ b₁ (i + 73) result true
                 new-result =
-                    new-alike (united .classes) (omega arith) (omega arith) (untouched-first .own (i + 71) (omega arith) (omega arith)) (untouched-first .unbound (i + 71) (omega arith) (omega arith))
+                    new-alike (united .classes) (omega arith) (omega arith) (untouched-first .own (i + 73) (omega arith) (omega arith)) (untouched-first .unbound (i + 73) (omega arith) (omega arith))
                     (omega (arith, result-below)) hung
 
-                equated : Equated p b p₂ b₁ Alikes
+                equated : Equated R p b p₂ b₁ Alikes
                 equated =
                     equated-then (equated-one united)
                     (equated-as
-                    (λ v linked e. e ∙ sym (result-alike o class (l + 71) v is (answer .1 .holds node v linked)))
-                    (λ v linked e. e ∙ result-alike o class (l + 71) v is (answer .1 .holds node v linked))
+                    (λ v linked e. e ∙ sym (result-alike o class (l + 73) v is (answer .1 .holds node v linked)))
+                    (λ v linked e. e ∙ result-alike o class (l + 73) v is (answer .1 .holds node v linked))
                     (equated-one new-result))
 
-                module _ {most : ℕ} {b₂ : List ℕ} {fits : Bool} (limit : most ≡ highestOf o) (restricted : Restricted b₁ b₂ class most fits) where
-                  op-extended : (kids : List ℕ) → Ready i kids u k p b → Extended kids u k p b u₂ k₃ p₂ b₂ Holds Fits
+                module _ {most : ℕ} {b₂ : List ℕ} {fits : Bool} (limit : most ≡ highestAt R o) (restricted : Restricted R b₁ b₂ class most fits) where
+                  op-extended : (kids : List ℕ) → Ready R i kids u k p b → Extended R kids u k p b u₂ k₃ p₂ b₂ Holds Fits
                   op-extended kids ready =
-                      subst (λ (n : ℕ). Extended kids u k p b u₂ k₃ p₂ b₂ Holds (λ v. atOrBelow (v (l + 71)) n ≡ true)) limit
+                      subst (λ (n : ℕ). Extended R kids u k p b u₂ k₃ p₂ b₂ Holds (λ v. under R (v (l + 73)) n ≡ true)) limit
                       (extended-below (extended (taken kids (ready .types)) equated) restricted
-                      (rw under (up-other (united .classes .forest) (i + 71) result (omega arith) class (λ e. omega (arith, below)) ∙ answer .1 .root node))
+                      (rw placed (up-other (united .classes .forest) (i + 73) result (omega arith) class (λ e. omega (arith, below)) ∙ answer .1 .root node))
                       (λ v linked. answer .1 .holds node v (new-result .outof refl v linked .0)))
 
                   -- Only the class's bound has changed, and a constant's was tested.
-                  within-after : fits ≡ true → ((c : ℕ) → c < 7 → atOrBelow c (boundAt b c) ≡ true) → (c : ℕ) → c < 7 → atOrBelow c (boundAt b₂ c) ≡ true
+                  within-after : fits ≡ true → ((c : ℕ) → c < wordsAt R → under R c (boundAt b c) ≡ true) → (c : ℕ) → c < wordsAt R → under R c (boundAt b₂ c) ≡ true
                   within-after fit within c code =
                       by-eq c class
-                      (λ e. subst (λ (x : ℕ). atOrBelow x (boundAt b₂ x) ≡ true) (sym e) (restricted .own fit (omega arith)))
-                      (λ n. ap (atOrBelow c) (restricted .others c n ∙ answer .1 .others c n) ∙ within c code)
+                      (λ e. subst (λ (x : ℕ). under R x (boundAt b₂ x) ≡ true) (sym e) (restricted .own fit (omega arith)))
+                      (λ n. ap (under R c) (restricted .others c n ∙ answer .1 .others c n) ∙ within c code)
 
-                  pub op-fine : fits ≡ true → (kids : List ℕ) → Ready i kids u k p b → Stepped i kids u k p b u₂ k₃ p₂ b₂ Holds Fits Fine
+                  pub op-fine : fits ≡ true → (kids : List ℕ) → Ready R i kids u k p b → Stepped R i kids u k p b u₂ k₃ p₂ b₂ Holds Fits Fine
                   op-fine fit kids ready = (
                     op-extended kids ready,
                     record {
                       types = unused-after kids (ready .types);
-                      qualifiers = restricted .stays p₂ (i + 1 + 71) (omega (arith, below))
-                          (new-result .stays (i + 1 + 71) (omega arith) (omega (arith, result-below)) (untouched-more (omega arith) untouched-first));
+                      qualifiers = restricted .stays p₂ (i + 1 + 73) (omega (arith, below))
+                          (new-result .stays (i + 1 + 73) (omega arith) (omega (arith, result-below)) (untouched-more (omega arith) untouched-first));
                       within = within-after fit (ready .within);
                     },
                   )
 
-                  pub op-broken : fits ≡ false → (kids : List ℕ) → Ready i kids u k p b → Stepped i kids u k p b u₂ k₃ p₂ b₂ Holds Fits Broken
+                  pub op-broken : fits ≡ false → (kids : List ℕ) → Ready R i kids u k p b → Stepped R i kids u k p b u₂ k₃ p₂ b₂ Holds Fits Broken
                   op-broken over kids ready = (op-extended kids ready, unused-after kids (ready .types), restricted .broken over)

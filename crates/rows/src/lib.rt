@@ -24,27 +24,28 @@ pub enum Verdict {
 }
 
 // A row that is INT or an arrow whatever the others are: its nodes are new, so its kind is stored, and its qualifier put under that of node q.
-fn known_row(parent: &mut [u16; 327], kind: &mut [u16; 327], i: usize, q: usize, k: u16)
-    requires { ⌜ Forest (now parent) ⌝ ∗ ⌜ (i < 256) × (q < 327) ⌝ }
+fn known_row(parent: &mut [u16; 329], kind: &mut [u16; 329], i: usize, q: usize, k: u16)
+    requires { ⌜ Forest (now parent) ⌝ ∗ ⌜ (i < 256) × (q < 329) ⌝ }
     ensures { λ _. ⌜ Known i q k (now (kind .entry)) (now (parent .entry)) (now (kind .exit)) (now (parent .exit)) ⌝ }
 {
     kind[i + 64] = k;
-    forest::put_under_root(parent, i + 71, q);
+    forest::put_under_root(parent, i + 73, q);
 }
 
 // An OP row: three types are INT, the operands have one qualifier, the result has theirs or PLAIN, and theirs is at most the operation's.
 fn op_row(
-    parent: &mut [u16; 327],
-    bound: &mut [u8; 327],
-    up: &mut [u16; 327],
-    kind: &mut [u16; 327],
+    rule: &[u8; 88],
+    parent: &mut [u16; 329],
+    bound: &mut [u8; 329],
+    up: &mut [u16; 329],
+    kind: &mut [u16; 329],
     i: usize,
     o: u8,
     l: usize,
     r: usize,
 ) -> Verdict
-    requires { ⌜ TypeClasses (now up) (now kind) ⌝ ∗ ⌜ Classes (now parent) (now bound) ⌝ ∗ ⌜ (i < 256) × (l < i) × (r < i) ⌝ ∗ ⌜ Untouched (i + 71) (now parent) (now bound) ⌝ }
-    ensures { λ a. ⌜ ((kids : List ℕ) → Ready i kids (now (up .entry)) (now (kind .entry)) (now (parent .entry)) (now (bound .entry)) → Stepped i kids (now (up .entry)) (now (kind .entry)) (now (parent .entry)) (now (bound .entry)) (now (up .exit)) (now (kind .exit)) (now (parent .exit)) (now (bound .exit)) (RowHolds i (Op o l r) 0 0) (RowFits (Op o l r)) a) ⌝ }
+    requires { ⌜ TypeClasses (now up) (now kind) ⌝ ∗ ⌜ Classes (now rule) (now parent) (now bound) ⌝ ∗ ⌜ (i < 256) × (l < i) × (r < i) × (o < 5) ⌝ ∗ ⌜ Untouched (now rule) (i + 73) (now parent) (now bound) ⌝ }
+    ensures { λ a. ⌜ ((kids : List ℕ) → Ready (now (rule .entry)) i kids (now (up .entry)) (now (kind .entry)) (now (parent .entry)) (now (bound .entry)) → Stepped (now (rule .entry)) i kids (now (up .entry)) (now (kind .entry)) (now (parent .entry)) (now (bound .entry)) (now (up .exit)) (now (kind .exit)) (now (parent .exit)) (now (bound .exit)) (RowHolds i (Op o l r) 0 0) (RowFits (now (rule .entry)) (Op o l r)) a) ⌝ }
 {
     if !unification::make_int(up, kind, l + 64) {
         return Verdict::Shapes;
@@ -53,13 +54,13 @@ fn op_row(
         return Verdict::Shapes;
     }
     kind[i + 64] = 1;
-    let class = qualifiers::unite(parent, bound, r + 71, l + 71);
+    let class = qualifiers::unite(rule, parent, bound, r + 73, l + 73);
     if class == qualifiers::APART {
         return Verdict::Apart;
     }
     let result = scheme::result(o, class as u16) as usize;
-    forest::put_under(parent, i + 71, result);
-    if qualifiers::restrict(bound, class, scheme::highest(o)) {
+    forest::put_under(parent, i + 73, result);
+    if qualifiers::restrict(rule, bound, class, scheme::highest_in(rule, o)) {
         Verdict::Fine
     } else {
         Verdict::Broken
@@ -68,8 +69,8 @@ fn op_row(
 
 // Whether making two nodes' types one can make a type that contains itself: they are two, and one is an arrow. To search where there is no need
 // does no harm, and a type that is missed here is found at the end.
-fn can_close(up: &[u16; 327], kind: &[u16; 327], x: usize, y: usize) -> bool
-    requires { ⌜ TypeClasses (now up) (now kind) ⌝ ∗ ⌜ (x < 327) × (y < 327) ⌝ }
+fn can_close(up: &[u16; 329], kind: &[u16; 329], x: usize, y: usize) -> bool
+    requires { ⌜ TypeClasses (now up) (now kind) ⌝ ∗ ⌜ (x < 329) × (y < 329) ⌝ }
 {
     let a = forest::find(up, x);
     let b = forest::find(up, y);
@@ -84,8 +85,8 @@ fn can_close(up: &[u16; 327], kind: &[u16; 327], x: usize, y: usize) -> bool
 
 // Makes the types of two nodes one. Where that can make a type that contains itself the types are kept, and put back if it does or if they clash.
 fn unify_kept(
-    up: &mut [u16; 327],
-    kind: &mut [u16; 327],
+    up: &mut [u16; 329],
+    kind: &mut [u16; 329],
     kids: &[u16; 1280],
     left: &mut [u16; 704],
     right: &mut [u16; 704],
@@ -93,7 +94,7 @@ fn unify_kept(
     x: usize,
     y: usize,
 ) -> Joining
-    requires { ⌜ TypeClasses (now up) (now kind) ⌝ ∗ ⌜ Parts (now kids) ⌝ ∗ ⌜ Room (now up) (now left) (now right) n ⌝ ∗ ⌜ (x < 327) × (y < 327) ⌝ }
+    requires { ⌜ TypeClasses (now up) (now kind) ⌝ ∗ ⌜ Parts (now kids) ⌝ ∗ ⌜ Room (now up) (now left) (now right) n ⌝ ∗ ⌜ (x < 329) × (y < 329) ⌝ }
     ensures { λ r. ⌜ Answered (now (kids .entry)) (now (up .entry)) (now (kind .entry)) (now (left .entry)) (now (right .entry)) (now (up .exit)) (now (kind .exit)) (now (left .exit)) (now (right .exit)) n (Same x y) r ⌝ ∗ ⌜ ((m : ℕ) → x < m → y < m → Confined m (now (kids .entry)) (now (up .entry)) (now (kind .entry)) (now (left .entry)) (now (right .entry)) (now (up .exit)) (now (kind .exit)) (now (left .exit)) (now (right .exit)) n r) ⌝ }
 {
     if !can_close(up, kind, x, y) {
@@ -117,14 +118,14 @@ fn unify_kept(
 
 // Makes an unknown root the arrow of row i, unless the row's argument is an arrow that would contain it.
 fn bind(
-    up: &[u16; 327],
-    kind: &mut [u16; 327],
+    up: &[u16; 329],
+    kind: &mut [u16; 329],
     kids: &[u16; 1280],
     i: usize,
     function: usize,
     argument: usize,
 ) -> bool
-    requires { ⌜ TypeClasses (now up) (now kind) ⌝ ∗ ⌜ Parts (now kids) ⌝ ∗ ⌜ (i < 256) × (argument < 327) × UnknownRoot (now up) (now kind) function ⌝ }
+    requires { ⌜ TypeClasses (now up) (now kind) ⌝ ∗ ⌜ Parts (now kids) ⌝ ∗ ⌜ (i < 256) × (argument < 329) × UnknownRoot (now up) (now kind) function ⌝ }
     ensures { λ r. ⌜ Bound (now (kids .entry)) (now (up .entry)) (now (kind .entry)) (now (kind .exit)) function (i + 64) r ⌝ }
 {
     kind[function] = i as u16 + 66;
@@ -141,8 +142,8 @@ fn bind(
 // The equation of an APP row. A function that is unknown becomes the arrow of the row. Where it is an arrow, the row's own node, which is new, is put
 // under the arrow's result, and the row's argument made one with the arrow's.
 fn apply(
-    up: &mut [u16; 327],
-    kind: &mut [u16; 327],
+    up: &mut [u16; 329],
+    kind: &mut [u16; 329],
     kids: &[u16; 1280],
     left: &mut [u16; 704],
     right: &mut [u16; 704],
@@ -166,8 +167,8 @@ fn apply(
     }
     let d = k - 2;
     forest::put_under_root(up, i + 64, graph::part(kids, d, 3));
-    let one = unification::note(left, right, 0, a + 71, graph::part(kids, d, 0));
-    let two = unification::note(left, right, one, i + 71, graph::part(kids, d, 2));
+    let one = unification::note(left, right, 0, a + 73, graph::part(kids, d, 0));
+    let two = unification::note(left, right, one, i + 73, graph::part(kids, d, 2));
     unify_kept(
         up,
         kind,
@@ -182,10 +183,11 @@ fn apply(
 
 // An APP row: its function is the arrow from its argument to itself.
 fn app_row(
-    parent: &mut [u16; 327],
-    bound: &mut [u8; 327],
-    up: &mut [u16; 327],
-    kind: &mut [u16; 327],
+    rule: &[u8; 88],
+    parent: &mut [u16; 329],
+    bound: &mut [u8; 329],
+    up: &mut [u16; 329],
+    kind: &mut [u16; 329],
     kids: &[u16; 1280],
     left: &mut [u16; 704],
     right: &mut [u16; 704],
@@ -193,15 +195,15 @@ fn app_row(
     f: usize,
     a: usize,
 ) -> Verdict
-    requires { ⌜ TypeClasses (now up) (now kind) ⌝ ∗ ⌜ Parts (now kids) ⌝ ∗ ⌜ Classes (now parent) (now bound) ⌝ ∗ ⌜ (i < 256) × (f < i) × (a < i) × Describes (now kids) i (App f a) 0 0 ⌝ ∗ ⌜ Ready i (now kids) (now up) (now kind) (now parent) (now bound) ⌝ }
-    ensures { λ r. ⌜ Stepped i (now (kids .entry)) (now (up .entry)) (now (kind .entry)) (now (parent .entry)) (now (bound .entry)) (now (up .exit)) (now (kind .exit)) (now (parent .exit)) (now (bound .exit)) (RowHolds i (App f a) 0 0) (RowFits (App f a)) r ⌝ }
+    requires { ⌜ TypeClasses (now up) (now kind) ⌝ ∗ ⌜ Parts (now kids) ⌝ ∗ ⌜ Classes (now rule) (now parent) (now bound) ⌝ ∗ ⌜ (i < 256) × (f < i) × (a < i) × Describes (now kids) i (App f a) 0 0 ⌝ ∗ ⌜ Ready (now rule) i (now kids) (now up) (now kind) (now parent) (now bound) ⌝ }
+    ensures { λ r. ⌜ Stepped (now (rule .entry)) i (now (kids .entry)) (now (up .entry)) (now (kind .entry)) (now (parent .entry)) (now (bound .entry)) (now (up .exit)) (now (kind .exit)) (now (parent .exit)) (now (bound .exit)) (RowHolds i (App f a) 0 0) (RowFits (now (rule .entry)) (App f a)) r ⌝ }
 {
     match apply(up, kind, kids, left, right, i, f, a) {
         Joining::Pairs(n) => {
-            if !qualifiers::unite_all(parent, bound, left, right, n) {
+            if !qualifiers::unite_all(rule, parent, bound, left, right, n) {
                 return Verdict::Apart;
             }
-            if qualifiers::within_bounds(bound) {
+            if qualifiers::within_bounds(rule, bound) {
                 Verdict::Fine
             } else {
                 Verdict::Broken
@@ -215,10 +217,11 @@ fn app_row(
 // Takes row i into the state; the arrays hold the nodes of the parameters. Types come before qualifiers, and qualifiers before bounds: 21 is before
 // 22, and 22 before 23.
 pub fn step(
-    parent: &mut [u16; 327],
-    bound: &mut [u8; 327],
-    up: &mut [u16; 327],
-    kind: &mut [u16; 327],
+    rule: &[u8; 88],
+    parent: &mut [u16; 329],
+    bound: &mut [u8; 329],
+    up: &mut [u16; 329],
+    kind: &mut [u16; 329],
     kids: &[u16; 1280],
     left: &mut [u16; 704],
     right: &mut [u16; 704],
@@ -227,8 +230,8 @@ pub fn step(
     qualifiers: &[u8; 64],
     typerows: &[u16; 64],
 ) -> Verdict
-    requires { ⌜ TypeClasses (now up) (now kind) ⌝ ∗ ⌜ Parts (now kids) ⌝ ∗ ⌜ Classes (now parent) (now bound) ⌝ ∗ ⌜ RowStands i term (named (now qualifiers) term) (named (now typerows) term) × Describes (now kids) i term (named (now qualifiers) term) (named (now typerows) term) ⌝ ∗ ⌜ Ready i (now kids) (now up) (now kind) (now parent) (now bound) ⌝ }
-    ensures { λ r. ⌜ Stepped i (now (kids .entry)) (now (up .entry)) (now (kind .entry)) (now (parent .entry)) (now (bound .entry)) (now (up .exit)) (now (kind .exit)) (now (parent .exit)) (now (bound .exit)) (RowHolds i term (named (now (qualifiers .entry)) term) (named (now (typerows .entry)) term)) (RowFits term) r ⌝ }
+    requires { ⌜ TypeClasses (now up) (now kind) ⌝ ∗ ⌜ Parts (now kids) ⌝ ∗ ⌜ Classes (now rule) (now parent) (now bound) ⌝ ∗ ⌜ RowStands i term (named (now qualifiers) term) (named (now typerows) term) × Describes (now kids) i term (named (now qualifiers) term) (named (now typerows) term) ⌝ ∗ ⌜ Ready (now rule) i (now kids) (now up) (now kind) (now parent) (now bound) ⌝ }
+    ensures { λ r. ⌜ Stepped (now (rule .entry)) i (now (kids .entry)) (now (up .entry)) (now (kind .entry)) (now (parent .entry)) (now (bound .entry)) (now (up .exit)) (now (kind .exit)) (now (parent .exit)) (now (bound .exit)) (RowHolds i term (named (now (qualifiers .entry)) term) (named (now (typerows .entry)) term)) (RowFits (now (rule .entry)) term) r ⌝ }
 {
     match term {
         Term::Lam(_, _) => {
@@ -236,6 +239,7 @@ pub fn step(
             Verdict::Fine
         }
         Term::App(f, a) => app_row(
+            rule,
             parent,
             bound,
             up,
@@ -247,15 +251,15 @@ pub fn step(
             f as usize,
             a as usize,
         ),
-        Term::Op(o, l, r) => op_row(parent, bound, up, kind, i, o, l as usize, r as usize),
+        Term::Op(o, l, r) => op_row(rule, parent, bound, up, kind, i, o, l as usize, r as usize),
         Term::Var(p) => {
             forest::put_under_root(up, i + 64, typerows[p as usize] as usize);
-            forest::put_under_root(parent, i + 71, qualifiers[p as usize] as usize);
+            forest::put_under_root(parent, i + 73, qualifiers[p as usize] as usize);
             Verdict::Fine
         }
         // Under its own node a literal's qualifier is a class of its own.
         Term::Num(_) => {
-            known_row(parent, kind, i, i + 71, 1);
+            known_row(parent, kind, i, i + 73, 1);
             Verdict::Fine
         }
         Term::Enc(s, _) => {

@@ -1,6 +1,10 @@
 pub mod Every
+pub mod Filling
 pub mod Qualifier
+pub mod Schemes
+pub mod Six
 pub mod Order
 pub mod Meets
 pub mod Operation
 pub mod Codes
+pub mod Rule

@@ -1,6 +1,10 @@
 pub mod Lists
+pub mod Schemes
 pub mod Qualifier
+pub mod Six
 pub mod Order
 pub mod Meet
 pub mod Operation
 pub mod Codes
+pub mod Rule
+pub mod Filled

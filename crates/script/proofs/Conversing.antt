@@ -8,16 +8,18 @@ use lib.Dec.{leb}
 use lib.ListN.{length, take, drop, length-append, length-take, drop-of-length-le}
 use lib.Seq.{sets, sets-eq, length-sets}
 use borrow.Author.Tests.{le-leb, lt-leb}
+use Rattle.scheme.specs.Six.{sixTable}
+use Rattle.schemes.specs.Schemes.{Kept}
 use Rattle.model.specs.Machine.{Machine, freshMachine}
-use Rattle.model.specs.WellFormed.{WellFormed}
 use Rattle.model.specs.Text.{linesOf}
 use Rattle.model.specs.Script.{largest, Responds}
 use Rattle.model.proofs.Scripts.{Held, held-none, held-next, held-conversation, conversation-same}
 use Rattle.table.specs.Lists.{lists}
 use Rattle.table.specs.declared.Table.{Table}
-use Rattle.table.proofs.WellFormed.{fresh-well-formed}
-use Rattle.text.specs.Lines.{lineLength}
-use Rattle.text.proofs.Lines.{line-part}
+use Rattle.table.specs.Ready.{Ready}
+use Rattle.table.proofs.Follows.{fresh-ready}
+use Rattle.lines.specs.Lines.{lineLength}
+use Rattle.lines.proofs.Lines.{line-part}
 use Rattle.report.specs.Writing.{Room, Wrote}
 use Rattle.report.proofs.Writing.{sets-append}
 use Rattle.script.specs.Turns.{Replied, Put, AnsweredAt, Tried}
@@ -52,7 +54,7 @@ answered-at m s buffer before after at sum r replied is put =
     record {
       answer = take (r .size) buffer;
       replies = replied .replies;
-      well-formed = replied .well-formed;
+      ready = replied .ready;
       counted = is ∙ ap (λ (n : ℕ). min (at + n) largest) (sym size);
       written = λ h. put ∙ simp (le-leb (at + length (take (r .size) buffer)) (length before) h);
     }
@@ -63,17 +65,17 @@ answered-at m s buffer before after at sum r replied is put =
 -- Before the line that starts at `from`.
 pub record Left (script before now : List ℕ) (table : Table) (from at : ℕ) : Type 0 where
   pub answers : List ℕ
-  pub rest : (others : List ℕ) → Held (lists table) (linesOf (drop from script)) others → Held freshMachine (linesOf script) (answers ++ others)
-  pub well-formed : WellFormed (lists table)
+  pub rest : (others : List ℕ) → Held (lists table) (linesOf (drop from script)) others → Held (freshMachine sixTable) (linesOf script) (answers ++ others)
+  pub ready : Ready table
   pub counted : at ≡ min (length answers) largest
   pub written : length answers ≤ length before → now ≡ sets before 0 answers
 
-pub all-left : (script before : List ℕ) (table : Table) → lists table ≡ freshMachine → Left script before before table 0 0
-all-left script before table fresh =
+pub all-left : (script before : List ℕ) (table : Table) → (lists table ≡ freshMachine sixTable) × Kept (table .schemes) → Left script before before table 0 0
+all-left script before table (fresh, kept) =
     record {
       answers = [];
       rest = λ others held. subst (λ (m : Machine). Held m (linesOf script) others) fresh held;
-      well-formed = rw fresh fresh-well-formed;
+      ready = fresh-ready sixTable fresh kept;
       counted = omega arith;
       written = λ h. refl;
     }
@@ -89,7 +91,7 @@ module _ (script before now after : List ℕ) (table : Table) (from to at : ℕ)
             rw append-assoc
             (left .rest (answered .answer ++ others)
             (subst (λ (lines : List (List ℕ)). Held (lists table) lines (answered .answer ++ others)) (sym (line-part script from to h is)) (held-next (answered .replies) held)));
-        well-formed = answered .well-formed;
+        ready = answered .ready;
         counted = omega (arith, answered .counted, left .counted, both);
         written = λ fits.
             let front : now ≡ sets before 0 (left .answers) = left .written (omega arith) in

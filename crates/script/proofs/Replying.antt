@@ -6,9 +6,8 @@ use mathlib.Core.Path.{_≡_, refl, sym, ap, subst, _∙_}
 use lib.ListN.{length, take, drop, set}
 use Rattle.model.specs.Number.{decimal}
 use Rattle.model.specs.Machine.{Machine, Change, added, redeclared, takenBack}
-use Rattle.model.specs.WellFormed.{WellFormed}
 use Rattle.model.specs.Report.{line}
-use Rattle.model.specs.Session.{Call, Outcome, Answers}
+use Rattle.model.specs.Session.{Call, Outcome, returning, Answers}
 use Rattle.model.specs.Session as Session
 use Rattle.model.specs.Script.{commandOf, Makes, answer, unknown, Replies}
 use Rattle.model.specs.Script as Script
@@ -18,8 +17,8 @@ use Rattle.table.specs.Called.{Called}
 use Rattle.table.specs.Called as Called
 use Rattle.table.specs.declared.Table.{Table}
 use Rattle.table.specs.declared.Answered.{Answered}
-use Rattle.table.proofs.Follows.{call-follows}
-use Rattle.table.proofs.WellFormed.{answers-well-formed}
+use Rattle.table.specs.Ready.{Ready}
+use Rattle.table.proofs.Follows.{call-follows, call-ready}
 use Rattle.report.specs.Writing.{Room, Wrote, Front}
 use Rattle.report.proofs.Fronts.{front-written, number-room}
 use Rattle.inference.specs.Printed.{Printed}
@@ -35,48 +34,52 @@ abbrev turn : Table → ℕ → Turn
 turn table size = record { table = table; size = size }
 
 -- A command's call was answered, and the answer stands at the front of the buffer.
-replied : {m : Machine} {s buffer : List ℕ} (table : Table) (size : ℕ) {call : Call} {o : Outcome} → WellFormed m → Makes (commandOf s) call → Answers m call o (lists table) →
+replied : {m : Machine} {s buffer : List ℕ} (table : Table) (size : ℕ) {call : Call} {o : Outcome} → Ready table → Makes (commandOf s) call → Answers m call o (lists table) →
     Front (answer call o) buffer size → Replied m s buffer (turn table size)
-replied {m} {s} {buffer} table size w makes a front =
+replied {m} {s} {buffer} table size ready makes a front =
     record {
       replies = subst (λ (text : List ℕ). Replies m s text (lists table)) (sym (front .bytes)) (Replies.calls makes a);
-      well-formed = answers-well-formed m w a;
+      ready = ready;
       fits = front .fits;
     }
 
 pub add-starts : (s : List ℕ) (c : Command) → said c s ≡ commandOf s → c ≡ Add → 4 ≤ length s
 add-starts s c reads e = add-long s (ap (λ (x : Command). said x s) (sym e) ∙ reads)
 
-module _ (t : Table) (s buffer : List ℕ) (w : WellFormed (lists t)) (c : Command) (reads : said c s ≡ commandOf s) where
+module _ (t : Table) (s buffer : List ℕ) (ready : Ready t) (c : Command) (reads : said c s ≡ commandOf s) where
   -- The line that was read is a command that makes the call.
   makes-as : {call : Call} (c′ : Command) → c ≡ c′ → Makes (said c′ s) call → Makes (commandOf s) call
   makes-as {call} c′ e makes = subst (λ (x : Script.Command). Makes x call) (ap (λ (x : Command). said x s) (sym e) ∙ reads) makes
 
   -- The number of a call stands at the front of the buffer.
   module _ (r : Answered) (size : ℕ) (front : Front (line (decimal (r .number) ∷ [])) buffer size) where
-    pub add-replied : c ≡ Add → change r ≡ added (lists t) (take (length s - 4) (drop 4 s)) → Replied (lists t) s buffer (turn (r .table) size)
-    unfolding said
-    add-replied e is =
-        replied (r .table) size w (makes-as Add e Makes.adds) (call-follows {t = t} {r = r} (Called.adds (is ∙ ap (added (lists t)) (rest-is 4 s)))) front
+    call-replied : {call : Call} → Makes (commandOf s) call → Called t call r → answer call (returning (r .number)) ≡ line (decimal (r .number) ∷ []) →
+        Replied (lists t) s buffer (turn (r .table) size)
+    call-replied makes called is =
+        replied (r .table) size (call-ready ready called) makes (call-follows called) (subst (λ (text : List ℕ). Front text buffer size) (sym is) front)
 
-    pub redeclare-replied : (p code : ℕ) → c ≡ Redeclare p code → change r ≡ redeclared (lists t) p code → Replied (lists t) s buffer (turn (r .table) size)
+    pub add-replied : c ≡ Add → (change r ≡ added (lists t) (take (length s - 4) (drop 4 s))) × (r .table .schemes ≡ t .schemes) → Replied (lists t) s buffer (turn (r .table) size)
     unfolding said
-    redeclare-replied p code e is = replied (r .table) size w (makes-as (Redeclare p code) e Makes.redeclares) (call-follows {t = t} {r = r} (Called.redeclares is)) front
+    add-replied e is = call-replied (makes-as Add e Makes.adds) (Called.adds (is .0 ∙ ap (added (lists t)) (rest-is 4 s)) (is .1)) refl
 
-    pub take-back-replied : c ≡ TakeBack → change r ≡ takenBack (lists t) → Replied (lists t) s buffer (turn (r .table) size)
+    pub redeclare-replied : (p code : ℕ) → c ≡ Redeclare p code → (change r ≡ redeclared (lists t) p code) × (r .table .schemes ≡ t .schemes) → Replied (lists t) s buffer (turn (r .table) size)
     unfolding said
-    take-back-replied e is = replied (r .table) size w (makes-as TakeBack e Makes.takes-back) (call-follows {t = t} {r = r} (Called.takes-back is)) front
+    redeclare-replied p code e is = call-replied (makes-as (Redeclare p code) e Makes.redeclares) (Called.redeclares (is .0) (is .1)) refl
+
+    pub take-back-replied : c ≡ TakeBack → (change r ≡ takenBack (lists t)) × (r .table .schemes ≡ t .schemes) → Replied (lists t) s buffer (turn (r .table) size)
+    unfolding said
+    take-back-replied e is = call-replied (makes-as TakeBack e Makes.takes-back) (Called.takes-back (is .0) (is .1)) refl
 
   pub infer-replied : (before : List ℕ) (size : ℕ) → 6280 ≤ length before → c ≡ Infer → Printed (lists t) before buffer size → Replied (lists t) s buffer (turn t size)
   unfolding said
-  infer-replied before size long e printed = replied t size w (makes-as Infer e (Makes.infers long)) (Session.infers (printed .infers)) (printed .front)
+  infer-replied before size long e printed = replied t size ready (makes-as Infer e (Makes.infers long)) (Session.infers (printed .infers)) (printed .front)
 
   pub unknown-replied : (size : ℕ) → c ≡ Nothing → Front unknown buffer size → Replied (lists t) s buffer (turn t size)
   unfolding said
   unknown-replied size e front =
       record {
         replies = subst (λ (text : List ℕ). Replies (lists t) s text (lists t)) (sym (front .bytes)) (Replies.passes (sym reads ∙ ap (λ (x : Command). said x s) e));
-        well-formed = w;
+        ready = ready;
         fits = front .fits;
       }
 

@@ -7,15 +7,15 @@ use lib.Dec.{leb}
 use lib.ListN.{length, take}
 use lib.Seq.{sets}
 use Rattle.model.specs.Machine.{Machine}
-use Rattle.model.specs.WellFormed.{WellFormed}
 use Rattle.model.specs.Script.{Replies, Conversation, largest}
 use Rattle.table.specs.Lists.{lists}
+use Rattle.table.specs.Ready.{Ready}
 use Rattle.script.specs.declared.Turn.{Turn}
 
 -- The answer to the line s stands at the front of the buffer.
 pub record Replied (m : Machine) (s buffer : List ℕ) (r : Turn) : Type 0 where
   pub replies : Replies m s (take (r .size) buffer) (lists (r .table))
-  pub well-formed : WellFormed (lists (r .table))
+  pub ready : Ready (r .table)
   pub fits : r .size ≤ length buffer
 
 -- Bytes were written at a place if there was room for all of them.
@@ -26,7 +26,7 @@ Put before at bytes after = after ≡ cond (leb (at + length bytes) (length befo
 pub record AnsweredAt (m : Machine) (s : List ℕ) (at : ℕ) (before after : List ℕ) (r : Turn) : Type 0 where
   pub answer : List ℕ
   pub replies : Replies m s answer (lists (r .table))
-  pub well-formed : WellFormed (lists (r .table))
+  pub ready : Ready (r .table)
   pub counted : r .size ≡ min (at + length answer) largest
   pub written : at + length answer ≤ length before → after ≡ sets before at answer
 

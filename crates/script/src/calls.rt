@@ -7,7 +7,7 @@ use table::Answered;
 use table::Table;
 
 pub(crate) fn add(layer: Layer, table: Table, line: &[u8]) -> Answered
-    ensures { λ r. ⌜ change r ≡ added (lists table) (now (line .entry)) ⌝ }
+    ensures { λ r. ⌜ (change r ≡ added (lists table) (now (line .entry))) × (r .table .schemes ≡ table .schemes) ⌝ }
 {
     match layer {
         Layer::ByValue => table.add(line),
@@ -16,7 +16,7 @@ pub(crate) fn add(layer: Layer, table: Table, line: &[u8]) -> Answered
 }
 
 pub(crate) fn redeclare(layer: Layer, table: Table, p: usize, code: usize) -> Answered
-    ensures { λ r. ⌜ change r ≡ redeclared (lists table) p code ⌝ }
+    ensures { λ r. ⌜ (change r ≡ redeclared (lists table) p code) × (r .table .schemes ≡ table .schemes) ⌝ }
 {
     match layer {
         Layer::ByValue => table.redeclare(p, code),
@@ -25,7 +25,7 @@ pub(crate) fn redeclare(layer: Layer, table: Table, p: usize, code: usize) -> An
 }
 
 pub(crate) fn take_back(layer: Layer, table: Table) -> Answered
-    ensures { λ r. ⌜ change r ≡ takenBack (lists table) ⌝ }
+    ensures { λ r. ⌜ (change r ≡ takenBack (lists table)) × (r .table .schemes ≡ table .schemes) ⌝ }
 {
     match layer {
         Layer::ByValue => table.take_back(),

@@ -4,10 +4,10 @@ ghost use mathlib.Core.Path.{_≡_};
 ghost use Prim.Native.Nat.{_+_, _≤_, min};
 ghost use lib.ListN.{length};
 ghost use Rattle.model.specs.Number.{decimal};
-ghost use Rattle.model.specs.WellFormed.{WellFormed};
 ghost use Rattle.model.specs.Report.{line};
 ghost use Rattle.model.specs.Script.{unknown, largest, Responds};
 ghost use Rattle.table.specs.Lists.{lists};
+ghost use Rattle.table.specs.Ready.{Ready};
 ghost use Rattle.report.specs.Writing.{Front};
 ghost use Rattle.script.specs.Turns.{Replied, AnsweredAt, Tried, Put, Kept};
 use command::Command;
@@ -35,7 +35,7 @@ pub struct Turn {
 
 // Answers a line of any bytes; the answer stands at the front of the buffer.
 pub fn answer(layer: Layer, table: Table, line: &[u8], buffer: &mut [u8]) -> Turn
-    requires { ⌜ WellFormed (lists table) × (6280 ≤ length (now buffer)) ⌝ }
+    requires { ⌜ Ready table × (6280 ≤ length (now buffer)) ⌝ }
     ensures { λ r. ⌜ Replied (lists table) (now (line .entry)) (now (buffer .exit)) r ⌝ }
 {
     match command::read(line) {
@@ -107,7 +107,7 @@ fn converse(layer: Layer, script: &[u8], output: &mut [u8]) -> usize
     let mut from: usize = 0;
     let mut at: usize = 0;
     while from < script.len() {
-        let to = text::line_end(script, from);
+        let to = lines::line_end(script, from);
         let turn = answer_at(layer, table, &script[from..to], output, at);
         table = turn.table;
         at = turn.size;
@@ -118,7 +118,7 @@ fn converse(layer: Layer, script: &[u8], output: &mut [u8]) -> usize
 
 // Answers a line, and writes the answer at a place where it fits. Returns the place after it.
 fn answer_at(layer: Layer, table: Table, line: &[u8], output: &mut [u8], at: usize) -> Turn
-    requires { ⌜ WellFormed (lists table) ⌝ }
+    requires { ⌜ Ready table ⌝ }
     ensures { λ r. ⌜ AnsweredAt (lists table) (now (line .entry)) at (now (output .entry)) (now (output .exit)) r ⌝ }
 {
     let mut buffer = [0u8; ANSWER];

@@ -57,7 +57,7 @@ fn hear(talk: Talk, part: &[u8]) -> Talk
     let mut now = talk;
     let mut from: usize = 0;
     while from < part.len() {
-        let to = text::line_end(part, from);
+        let to = lines::line_end(part, from);
         now = with_part(now, &part[from..to]);
         if to == part.len() {
             return now;

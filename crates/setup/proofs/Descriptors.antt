@@ -7,6 +7,8 @@ use lib.ListN.{length, take, length-take}
 use lib.Seq.{getD-take}
 use borrow.Author.Count.{below-more}
 use Rattle.model.specs.Machine.{Machine, noTypeRow, typeAt, formIn}
+use Rattle.scheme.specs.Schemes.{words}
+use Rattle.scheme.proofs.Schemes.{sound-few}
 use Rattle.model.specs.WellFormed.{WellFormed, TypeStands, TermStands}
 use Rattle.model.specs.declared.TypeForm.{TypeForm}
 use Rattle.model.specs.declared.TypeForm.the-variants.{Int, Any, Arrow}
@@ -49,7 +51,7 @@ pub forms-kept-more : (kids kids′ kids″ : List ℕ) (i : ℕ) → FormsKept 
 forms-kept-more kids kids′ kids″ i kept only x j below h = only .others x j (λ e. omega arith) h ∙ kept x j below h
 
 -- What makes the parts of a row's descriptor nodes, from what the row asks.
-pub has-nodes : (i : ℕ) (term : Term) (q ty : ℕ) → TermStands 64 i term → q < 71 → ty < 64 → HasNodes i term q ty
+pub has-nodes : (i : ℕ) (term : Term) (q ty : ℕ) → TermStands 9 64 i term → q < 73 → ty < 64 → HasNodes i term q ty
 has-nodes i (Lam p b) q ty stands hq ht = (stands .0, stands .1, hq, ht)
 has-nodes i (App f a) q ty stands hq ht = stands
 has-nodes i (Op o l r) q ty stands hq ht = tt
@@ -58,13 +60,19 @@ has-nodes i (Num n) q ty stands hq ht = tt
 has-nodes i (Enc s n) q ty stands hq ht = tt
 
 -- The parameter that a row names has a place, and so has 0, where it names none.
-pub names-place : (count i : ℕ) (term : Term) → count ≤ 64 → TermStands count i term → parameterOf term < 64
-names-place count i (Lam p b) few stands = omega (arith, stands .0)
-names-place count i (App f a) few stands = omega arith
-names-place count i (Op o l r) few stands = omega arith
-names-place count i (Var p) few stands = omega arith
-names-place count i (Num n) few stands = omega arith
-names-place count i (Enc s n) few stands = omega arith
+pub names-place : (w count i : ℕ) (term : Term) → count ≤ 64 → TermStands w count i term → parameterOf term < 64
+names-place w count i (Lam p b) few stands = omega (arith, stands .0)
+names-place w count i (App f a) few stands = omega arith
+names-place w count i (Op o l r) few stands = omega arith
+names-place w count i (Var p) few stands = omega arith
+names-place w count i (Num n) few stands = omega arith
+names-place w count i (Enc s n) few stands = omega arith
+
+-- Codes of fewer words are codes of nine.
+stands-nine : (w x : ℕ) (form : TypeForm) → w ≤ 9 → TypeStands w x form → TypeStands 9 x form
+stands-nine w x Int few st = tt
+stands-nine w x Any few st = tt
+stands-nine w x (Arrow q t q′ t′) few st = (omega (arith, st .0), st .1, omega (arith, st .2), st .3)
 
 -- The first type rows of a well-formed machine, in the array that holds them.
 module _ (m : Machine) (types : List TypeRow) (count : ℕ) (wf : WellFormed m) (same : m .types ≡ take count types) (size : length types ≡ 64) (few : count ≤ 64) where
@@ -75,7 +83,7 @@ module _ (m : Machine) (types : List TypeRow) (count : ℕ) (wf : WellFormed m) 
   form-same x h = ap (λ (rows : List TypeRow). formIn rows x) same ∙ ap (λ (row : TypeRow). row .form) (getD-take count types x noTypeRow h)
 
   pub forms-stand : FormsStand types count
-  forms-stand x h = subst (TypeStands x) (form-same x h) (wf .types-stand x (omega (arith, type-count)))
+  forms-stand x h = subst (TypeStands 9 x) (form-same x h) (stands-nine (words (m .schemes)) x (typeAt m x) (sound-few (wf .schemes-sound)) (wf .types-stand x (omega (arith, type-count))))
 
   pub described : (kids : List ℕ) → Parts kids → FormsDescribed types count kids → Described m kids
   described kids parts forms =

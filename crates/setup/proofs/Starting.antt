@@ -17,10 +17,10 @@ use Rattle.qualifiers.specs.Classes.{boundAt}
 use Rattle.setup.specs.Started.{formKind, startKind, Started}
 use Rattle.setup.specs.Passes.{SelfRooted, FirstHold, Kinds}
 
-pub rooted-none : SelfRooted 0 (replicate 327 0)
-rooted-none = record { size = length-replicate {A = ℕ} 327 0; own = below-none _ }
+pub rooted-none : SelfRooted 0 (replicate 329 0)
+rooted-none = record { size = length-replicate {A = ℕ} 329 0; own = below-none _ }
 
-pub rooted-more : (p : List ℕ) (n : ℕ) → n < 327 → SelfRooted n p → SelfRooted (n + 1) (set p n n)
+pub rooted-more : (p : List ℕ) (n : ℕ) → n < 329 → SelfRooted n p → SelfRooted (n + 1) (set p n n)
 rooted-more p n h rooted =
     record {
       size = length-set p n n ∙ rooted .size;
@@ -67,17 +67,17 @@ params-hold f params count l none hold p below = hold .at p below ∙ go (ltb p 
     go false e =
         sym (ap f (List·getD-eq-default (take count params) noParam {n = p} (omega (arith, length-take count params, ltb-false p count e))) ∙ none)
 
-module _ (types : List TypeRow) (count : ℕ) {u k p b : List ℕ} where
+module _ (types : List TypeRow) (count top : ℕ) {u k p b : List ℕ} where
   pub started :
-      length types ≡ 64 → count ≤ 64 → SelfRooted 327 u → Kinds types count k → SelfRooted 327 p → b ≡ replicate 327 6 →
-      (m : Machine) → m .types ≡ take count types → Started m u k p b
+      length types ≡ 64 → count ≤ 64 → SelfRooted 329 u → Kinds types count k → SelfRooted 329 p → b ≡ replicate 329 top →
+      (m : Machine) → m .types ≡ take count types → Started m top u k p b
   started whole fits u-roots kinds p-roots unrestricted m e =
       record {
-        sizes = (u-roots .size, kinds .size, p-roots .size, ap length unrestricted ∙ length-replicate {A = ℕ} 327 6);
+        sizes = (u-roots .size, kinds .size, p-roots .size, ap length unrestricted ∙ length-replicate {A = ℕ} 329 top);
         type-roots = u-roots .own;
         kinds = λ x h. kinds .at x h ∙ same x;
         qualifier-roots = p-roots .own;
-        bounds = λ x h. ap (λ (l : List ℕ). boundAt l x) unrestricted ∙ getD-replicate {A = ℕ} 327 x 6 0 h;
+        bounds = λ x h. ap (λ (l : List ℕ). boundAt l x) unrestricted ∙ getD-replicate {A = ℕ} 329 x top 0 h;
       }
     where
       counted : length (m .types) ≡ count

@@ -8,6 +8,7 @@ ghost use Prim.Native.Nat.{ℕ, _+_, _<_, _≤_};
 ghost use lib.Dec.{eqb};
 ghost use lib.ListN.{length, getD, set, take};
 ghost use Rattle.model.specs.Machine.{Machine, paramIn};
+ghost use Rattle.model.specs.Inference.{ruling};
 ghost use Rattle.model.specs.WellFormed.{WellFormed};
 ghost use Rattle.readings.specs.Nodes.{shapeOf};
 ghost use Rattle.report.specs.Codes.{codesOf, shapeOfCode};
@@ -43,27 +44,29 @@ fn put(list: &mut [u8], at: usize, code: u8)
     list[at] = code;
 }
 
-// Fills the variable that a code names, if it names one.
-fn fill_variable(code: u8, words: &[u8; 327], variables: &mut [u8; 64])
-    ensures { λ _. ⌜ VariablesFilled (λ c. eqb c code) (now (words .entry)) (now (variables .entry)) (now (variables .exit)) ⌝ }
+// Fills the variable that a code names, if it names one: the codes from `first` on are the variables'.
+fn fill_variable(code: u8, first: usize, words: &[u8; 329], variables: &mut [u8; 64])
+    requires { ⌜ first ≤ 9 ⌝ }
+    ensures { λ _. ⌜ VariablesFilled first (λ c. eqb c code) (now (words .entry)) (now (variables .entry)) (now (variables .exit)) ⌝ }
 {
-    match scheme::stands_for(code as u64) {
+    match scheme::stands_for(first as u8, code as u64) {
         Standing::Word(_) => {}
-        Standing::Variable(k) => put(variables, k as usize, words[k as usize + 7]),
+        Standing::Variable(k) => put(variables, k as usize, words[k as usize + first]),
         Standing::Nothing => {}
     }
 }
 
 // Fills the variables of a type row's form.
-fn fill_variables_of_form(form: TypeForm, words: &[u8; 327], variables: &mut [u8; 64])
-    ensures { λ _. ⌜ VariablesFilled (inForm form) (now (words .entry)) (now (variables .entry)) (now (variables .exit)) ⌝ }
+fn fill_variables_of_form(form: TypeForm, first: usize, words: &[u8; 329], variables: &mut [u8; 64])
+    requires { ⌜ first ≤ 9 ⌝ }
+    ensures { λ _. ⌜ VariablesFilled first (inForm form) (now (words .entry)) (now (variables .entry)) (now (variables .exit)) ⌝ }
 {
     match form {
         TypeForm::Int => {}
         TypeForm::Any => {}
         TypeForm::Arrow(argument, _, result, _) => {
-            fill_variable(argument, words, variables);
-            fill_variable(result, words, variables);
+            fill_variable(argument, first, words, variables);
+            fill_variable(result, first, words, variables);
         }
     }
 }
@@ -72,17 +75,18 @@ fn fill_variables_of_form(form: TypeForm, words: &[u8; 327], variables: &mut [u8
 fn fill_variables_of_types(
     types: [TypeRow; 64],
     count: usize,
-    words: &[u8; 327],
+    first: usize,
+    words: &[u8; 329],
     variables: &mut [u8; 64],
 )
-    requires { ⌜ count ≤ 64 ⌝ }
-    ensures { λ _. ⌜ VariablesFilled (inTypes (take count types)) (now (words .entry)) (now (variables .entry)) (now (variables .exit)) ⌝ }
+    requires { ⌜ (count ≤ 64) × (first ≤ 9) ⌝ }
+    ensures { λ _. ⌜ VariablesFilled first (inTypes (take count types)) (now (words .entry)) (now (variables .entry)) (now (variables .exit)) ⌝ }
 {
     let mut i = 0;
     while i < count {
         let row = types[i];
         let form = row.form;
-        fill_variables_of_form(form, words, variables);
+        fill_variables_of_form(form, first, words, variables);
         i += 1;
     }
 }
@@ -91,16 +95,17 @@ fn fill_variables_of_types(
 fn fill_variables_of_params(
     params: [Param; 64],
     count: usize,
-    words: &[u8; 327],
+    first: usize,
+    words: &[u8; 329],
     variables: &mut [u8; 64],
 )
-    requires { ⌜ count ≤ 64 ⌝ }
-    ensures { λ _. ⌜ VariablesFilled (inParams (take count params)) (now (words .entry)) (now (variables .entry)) (now (variables .exit)) ⌝ }
+    requires { ⌜ (count ≤ 64) × (first ≤ 9) ⌝ }
+    ensures { λ _. ⌜ VariablesFilled first (inParams (take count params)) (now (words .entry)) (now (variables .entry)) (now (variables .exit)) ⌝ }
 {
     let mut i = 0;
     while i < count {
         let param = params[i];
-        fill_variable(param.qualifier, words, variables);
+        fill_variable(param.qualifier, first, words, variables);
         i += 1;
     }
 }
@@ -109,8 +114,8 @@ fn fill_variables_of_params(
 fn fill_params(
     params: [Param; 64],
     count: usize,
-    words: &[u8; 327],
-    kinds: &[u16; 327],
+    words: &[u8; 329],
+    kinds: &[u16; 329],
     param_words: &mut [u8; 64],
     param_shapes: &mut [u8; 64],
 )
@@ -130,43 +135,44 @@ fn fill_params(
 // Fills the slots of the first term rows.
 fn fill_rows(
     count: usize,
-    words: &[u8; 327],
-    kinds: &[u16; 327],
+    words: &[u8; 329],
+    kinds: &[u16; 329],
     row_words: &mut [u8; 256],
     row_shapes: &mut [u8; 256],
 )
     requires { ⌜ count ≤ 256 ⌝ }
-    ensures { λ _. ⌜ SlotsFilled count (λ i. i + 71) (λ i. i + 64) (now (words .entry)) (now (kinds .entry)) (now («row_words» .exit)) (now («row_shapes» .exit)) ⌝ }
+    ensures { λ _. ⌜ SlotsFilled count (λ i. i + 73) (λ i. i + 64) (now (words .entry)) (now (kinds .entry)) (now («row_words» .exit)) (now («row_shapes» .exit)) ⌝ }
 {
     let mut i = 0;
     while i < count {
-        put(row_words, i, words[i + 71]);
+        put(row_words, i, words[i + 73]);
         put(row_shapes, i, shape_at(kinds, i + 64));
         i += 1;
     }
 }
 
-// Fills the codes of every slot: a variable that stands in no type row and no parameter has 7.
+// Fills the codes of every slot: a variable that stands in no type row and no parameter has 9, which is no word's code.
 pub fn fill(
     types: [TypeRow; 64],
     typecount: usize,
     params: [Param; 64],
     paramcount: usize,
     rows: usize,
-    words: &[u8; 327],
-    kinds: &[u16; 327],
+    first: usize,
+    words: &[u8; 329],
+    kinds: &[u16; 329],
     variables: &mut [u8; 64],
     param_words: &mut [u8; 64],
     param_shapes: &mut [u8; 64],
     row_words: &mut [u8; 256],
     row_shapes: &mut [u8; 256],
 )
-    requires { ⌜ (typecount ≤ 64) × (paramcount ≤ 64) × (rows ≤ 256) ⌝ ∗ ⌜ ((x : ℕ) → x < 327 → getD (now words) x 0 < 7) ⌝ }
-    ensures { λ _. ⌜ ((m : Machine) → m .types ≡ take typecount types → m .params ≡ take paramcount params → length (m .terms) ≡ rows → WellFormed m → Filled m (λ x. getD (now (words .entry)) x 0) (λ x. getD (now (kinds .entry)) x 0) (codesOf (now (variables .exit)) (now («param_words» .exit)) (now («param_shapes» .exit)) (now («row_words» .exit)) (now («row_shapes» .exit)))) ⌝ }
+    requires { ⌜ (typecount ≤ 64) × (paramcount ≤ 64) × (rows ≤ 256) × (first ≤ 9) ⌝ ∗ ⌜ ((x : ℕ) → x < 329 → getD (now words) x 0 < first) ⌝ }
+    ensures { λ _. ⌜ ((m : Machine) → ruling m .words ≡ first → m .types ≡ take typecount types → m .params ≡ take paramcount params → length (m .terms) ≡ rows → WellFormed m → Filled m (λ x. getD (now (words .entry)) x 0) (λ x. getD (now (kinds .entry)) x 0) (codesOf (now (variables .exit)) (now («param_words» .exit)) (now («param_shapes» .exit)) (now («row_words» .exit)) (now («row_shapes» .exit)))) ⌝ }
 {
-    *variables = [7; 64];
-    fill_variables_of_types(types, typecount, words, variables);
-    fill_variables_of_params(params, paramcount, words, variables);
+    *variables = [9; 64];
+    fill_variables_of_types(types, typecount, first, words, variables);
+    fill_variables_of_params(params, paramcount, first, words, variables);
     fill_params(params, paramcount, words, kinds, param_words, param_shapes);
     fill_rows(rows, words, kinds, row_words, row_shapes);
 }

@@ -5,9 +5,7 @@ use mathlib.Core.List.{List}
 use mathlib.Core.Path.{_≡_, sym, ap, subst, _∙_}
 use lib.ListN.{length, take, length-take}
 use Rattle.model.specs.Machine.{Machine}
-use Rattle.model.specs.WellFormed.{WellFormed}
-use Rattle.model.specs.Strength.{six}
-use Rattle.model.specs.Inference.{Slot, Listed, Shape, ShapeSays, GreatestTyping}
+use Rattle.model.specs.Inference.{ruling, Slot, Listed, Shape, ShapeSays, GreatestTyping}
 use Rattle.model.specs.declared.TermRow.{TermRow}
 use Rattle.graph.specs.Types.{kindAt, Parts}
 use Rattle.qualifiers.specs.Classes.{boundAt, Greatest}
@@ -16,24 +14,24 @@ use Rattle.readings.proofs.Greatest.{solved-greatest}
 use Rattle.report.specs.Codes as Codes
 use Rattle.slots.specs.Filled.{Filled}
 use Rattle.solver.specs.State.{After}
-use Rattle.solver.specs.Runs.{Ended, Refuses, Solves}
+use Rattle.solver.specs.Runs.{Governed, Ended, Refuses, Solves}
 use Rattle.solver.specs.declared.Answer.{Answer}
 use Rattle.solver.specs.declared.Answer.the-variants.{Placed, Refused}
 use Rattle.solver.proofs.Solving.{state-solved}
 
 -- What the typings give is the same in other words for the same slots.
 greatest-as : (m : Machine) {word word′ : Slot → ℕ} {shape shape′ : Slot → Shape} →
-    ((x : Slot) → Listed six m x → word′ x ≡ word x) → ((x : Slot) → Listed six m x → shape′ x ≡ shape x) →
-    GreatestTyping six m word shape → GreatestTyping six m word′ shape′
+    ((x : Slot) → Listed (ruling m) m x → word′ x ≡ word x) → ((x : Slot) → Listed (ruling m) m x → shape′ x ≡ shape x) →
+    GreatestTyping (ruling m) m word shape → GreatestTyping (ruling m) m word′ shape′
 greatest-as m same-word same-shape a =
     record {
       worded = λ x l. rw (same-word x l) (a .worded x l);
       greatest = λ s typing x l. rw (same-word x l) (a .greatest s typing x l);
-      shaped = λ x l. subst (λ (h : Shape). ShapeSays six m x h) (sym (same-shape x l)) (a .shaped x l);
+      shaped = λ x l. subst (λ (h : Shape). ShapeSays (ruling m) m x h) (sym (same-shape x l)) (a .shaped x l);
       together = (
         a .together .0,
         a .together .1,
-        λ x l. a .together .2 x l ∙ ap (six .word) (sym (same-word x l)),
+        λ x l. a .together .2 x l ∙ ap (ruling m .word) (sym (same-word x l)),
         λ x l any. a .together .3 x l (sym (same-shape x l) ∙ any),
       );
     }
@@ -42,12 +40,12 @@ greatest-as m same-word same-shape a =
 pub counted : (terms : List TermRow) (termcount : ℕ) → length terms ≡ 256 → termcount ≤ 256 → termcount ≡ length (take termcount terms)
 counted terms termcount size few = sym (length-take termcount terms ∙ omega arith)
 
-pub placed : {m : Machine} {kids u k p b : List ℕ} (b′ k′ : List ℕ) {rows : ℕ} {codes : Codes.Codes} → WellFormed m → Parts kids → rows ≡ length (m .terms) →
-    Ended m kids u k p b rows → Greatest p b (boundAt b′) → Settled u k k′ → Filled m (boundAt b′) (kindAt k′) codes → Solves m codes Placed
-placed {m} {kids} {u} {k} {p} {b} b′ k′ wf parts whole ended g settled filled =
+pub placed : {R : List ℕ} {m : Machine} {kids u k p b : List ℕ} (b′ k′ : List ℕ) {rows : ℕ} {codes : Codes.Codes} → Governed R m → Parts kids → rows ≡ length (m .terms) →
+    Ended R m kids u k p b rows → Greatest R p b (boundAt b′) → Settled u k k′ → Filled m (boundAt b′) (kindAt k′) codes → Solves m codes Placed
+placed {R} {m} {kids} {u} {k} {p} {b} b′ k′ gov parts whole ended g settled filled =
     let solved =
-    state-solved m kids u k p b k′ (boundAt b′) parts (subst (λ (n : ℕ). After m kids u k p b n) whole (ended .after)) (ended .finite) g settled in
-    (greatest-as m (filled .words) (filled .shapes) (solved-greatest m wf (boundAt b′) (kindAt k′) solved), filled .matches)
+    state-solved m gov kids u k p b k′ (boundAt b′) parts (subst (λ (n : ℕ). After R m kids u k p b n) whole (ended .after)) (ended .finite) g settled in
+    (greatest-as m (filled .words) (filled .shapes) (solved-greatest m (gov .well-formed) R (gov .ruled) (boundAt b′) (kindAt k′) solved), filled .matches)
 
 pub refused : (m : Machine) (codes : Codes.Codes) (r : Answer) → Refuses m r → Solves m codes r
 refused m codes Placed none = absurd none

@@ -6,11 +6,12 @@ use mathlib.Core.List.{List}
 use mathlib.Core.Path.{_≡_, refl, sym, ap, subst, subst₂}
 use lib.ListN.{length, take, length-take, List·getD-eq-default}
 use lib.Seq.{getD-take}
+use Rattle.scheme.specs.Schemes.{SchemeTable, words}
 use Rattle.model.specs.Machine.{Machine, noParam, noTermRow, paramAt, termAt}
 use Rattle.model.specs.WellFormed.{WellFormed, TermStands}
 use Rattle.model.specs.Typing.{Typable}
-use Rattle.model.specs.Strength.{whole, six}
-use Rattle.model.specs.Inference.{Refusal}
+use Rattle.model.specs.Strength.{whole}
+use Rattle.model.specs.Inference.{ruling, Refusal}
 use Rattle.model.proofs.Fewer.{typable-fewer}
 use Rattle.model.specs.declared.TypeRow.{TypeRow}
 use Rattle.model.specs.declared.Param.{Param}
@@ -18,25 +19,26 @@ use Rattle.model.specs.declared.Term.{Term}
 use Rattle.model.specs.declared.Term.the-variants.{Lam, App, Op, Var, Num, Enc}
 use Rattle.model.specs.declared.TermRow.{TermRow}
 use Rattle.readings.specs.Nodes.{parameterOf, named}
+use Rattle.scheme.proofs.Schemes.{sound-few}
 use Rattle.readings.proofs.Lines.{lines-typable}
 use Rattle.setup.specs.Descriptors.{machineOf, rowQualifier, rowTyperow}
 use Rattle.setup.specs.Passes.{ParamsNoted}
 use Rattle.setup.proofs.Descriptors.{names-place}
 use Rattle.rows.specs.Rows.{RowStands}
-use Rattle.solver.specs.Runs.{Fails, RowsOf, RowReady, Ran}
+use Rattle.solver.specs.Runs.{Governed, Fails, RowsOf, RowReady, Ran}
 use Rattle.solver.specs.declared.Run.the-variants.{Whole}
 
 -- No rows at all: the lines alone have a typing.
-pub run-none : (m : Machine) (kids u k p b : List ℕ) (rows : ℕ) → WellFormed m → rows ≡ 0 → Ran m kids u k p b rows Whole
-run-none m kids u k p b rows wf e = (subst (λ (n : ℕ). Typable (whole six) m n) (sym e) (lines-typable m wf), λ some. absurd (some e))
+pub run-none : (R : List ℕ) (m : Machine) (kids u k p b : List ℕ) (rows : ℕ) → Governed R m → rows ≡ 0 → Ran R m kids u k p b rows Whole
+run-none R m kids u k p b rows gov e = (subst (λ (n : ℕ). Typable (whole (ruling m)) m n) (sym e) (lines-typable m (gov .well-formed) R (gov .ruled)), λ some. absurd (some e))
 
 -- The first rows of the arrays are the machine's.
-pub rows-of : (types : List TypeRow) (typecount : ℕ) (params : List Param) (paramcount : ℕ) (terms : List TermRow) (termcount rows : ℕ) {q ty : List ℕ} →
-    WellFormed (machineOf types typecount params paramcount terms termcount) → length terms ≡ 256 → termcount ≤ 256 → rows ≤ termcount → ParamsNoted (take paramcount params) q ty →
-    RowsOf (machineOf types typecount params paramcount terms termcount) q ty terms rows
-rows-of types typecount params paramcount terms termcount rows wf size few most noted =
+pub rows-of : (R : List ℕ) (T : SchemeTable) (types : List TypeRow) (typecount : ℕ) (params : List Param) (paramcount : ℕ) (terms : List TermRow) (termcount rows : ℕ) {q ty : List ℕ} →
+    Governed R (machineOf T types typecount params paramcount terms termcount) → length terms ≡ 256 → termcount ≤ 256 → rows ≤ termcount → ParamsNoted (take paramcount params) q ty →
+    RowsOf R (machineOf T types typecount params paramcount terms termcount) q ty terms rows
+rows-of R T types typecount params paramcount terms termcount rows gov size few most noted =
     record {
-      well-formed = wf;
+      governed = gov;
       noted = noted;
       same-term = λ i below. (
         rw (length-take termcount terms) (omega arith),
@@ -44,22 +46,22 @@ rows-of types typecount params paramcount terms termcount rows wf size few most 
       );
     }
 
--- Fewer parameters stand than there are places.
-stands-weaker : (n i : ℕ) (term : Term) → n ≤ 64 → TermStands n i term → TermStands 64 i term
-stands-weaker n i (Lam p b) h st = (omega (arith, st .0), st .1)
-stands-weaker n i (App f a) h st = st
-stands-weaker n i (Op o l r) h st = st
-stands-weaker n i (Var p) h st = omega arith
-stands-weaker n i (Num x) h st = tt
-stands-weaker n i (Enc s x) h st = st
+-- Fewer parameters stand than there are places, and there are no more words than nodes for them.
+stands-weaker : (w n i : ℕ) (term : Term) → w ≤ 9 → n ≤ 64 → TermStands w n i term → TermStands 9 64 i term
+stands-weaker w n i (Lam p b) few h st = (omega (arith, st .0), st .1)
+stands-weaker w n i (App f a) few h st = st
+stands-weaker w n i (Op o l r) few h st = st
+stands-weaker w n i (Var p) few h st = omega arith
+stands-weaker w n i (Num x) few h st = tt
+stands-weaker w n i (Enc s x) few h st = (st .0, omega (arith, st .1))
 
 module _ {m : Machine} (wf : WellFormed m) where
   -- A parameter's nodes are nodes, also past the end of the list.
-  param-nodes : (p : ℕ) → (paramAt m p .qualifier < 71) × (paramAt m p .typerow < 64)
+  param-nodes : (p : ℕ) → (paramAt m p .qualifier < 73) × (paramAt m p .typerow < 64)
   param-nodes p = go (decLt p (length (m .params)))
     where
-      go : Dec (p < length (m .params)) → (paramAt m p .qualifier < 71) × (paramAt m p .typerow < 64)
-      go (yes h) = (omega (arith, wf .params-stand p h .0), omega (arith, wf .params-stand p h .1, wf .types-fit))
+      go : Dec (p < length (m .params)) → (paramAt m p .qualifier < 73) × (paramAt m p .typerow < 64)
+      go (yes h) = (omega (arith, wf .params-stand p h .0, sound-few (wf .schemes-sound)), omega (arith, wf .params-stand p h .1, wf .types-fit))
       go (no n) =
           let none = List·getD-eq-default (m .params) noParam {n = p} (omega arith) in
           (omega (arith, ap (λ (d : Param). d .qualifier) none), omega (arith, ap (λ (d : Param). d .typerow) none))
@@ -68,16 +70,16 @@ module _ {m : Machine} (wf : WellFormed m) where
   row-stands i h =
       record {
         in-list = omega (arith, wf .terms-fit);
-        stands = stands-weaker (length (m .params)) i (termAt m i) (wf .params-fit) (wf .terms-stand i h);
+        stands = stands-weaker (words (m .schemes)) (length (m .params)) i (termAt m i) (sound-few (wf .schemes-sound)) (wf .params-fit) (wf .terms-stand i h);
         qualifier-node = param-nodes (parameterOf (termAt m i)) .0;
         type-node = param-nodes (parameterOf (termAt m i)) .1;
       }
 
-  pub row-ready : {q ty : List ℕ} {terms : List TermRow} {rows : ℕ} → RowsOf m q ty terms rows → (i : ℕ) → i < rows → RowReady q ty terms i
-  row-ready {q} {ty} of i below =
+  pub row-ready : {R q ty : List ℕ} {terms : List TermRow} {rows : ℕ} → RowsOf R m q ty terms rows → (i : ℕ) → i < rows → RowReady q ty terms i
+  row-ready {R} {q} {ty} of i below =
       let in-list = of .same-term i below .0 in
       let row = row-stands i in-list in
-      let place = names-place 64 i (termAt m i) (omega arith) (row .stands) in
+      let place = names-place 9 64 i (termAt m i) (omega arith) (row .stands) in
       subst (λ (term : Term). RowStands i term (named q term) (named ty term)) (of .same-term i below .1)
       (subst₂ (RowStands i (termAt m i)) (sym (of .noted .qualifier (parameterOf (termAt m i)) place)) (sym (of .noted .typerow (parameterOf (termAt m i)) place)) row)
 
@@ -86,7 +88,7 @@ pub in-terms : (terms : List TermRow) (termcount row : ℕ) → length terms ≡
 in-terms terms termcount row size few below = rw (length-take termcount terms) (omega arith)
 
 -- The rows before a failing one are typable, so it is the least.
-pub refusal-of : (m : Machine) (number row : ℕ) → row < length (m .terms) → Fails m number row → Typable (whole six) m row → Refusal six m number row
+pub refusal-of : (m : Machine) (number row : ℕ) → row < length (m .terms) → Fails m number row → Typable (whole (ruling m)) m row → Refusal (ruling m) m number row
 refusal-of m number row in-list fails some =
     record {
       in-list = in-list;

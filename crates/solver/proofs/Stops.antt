@@ -5,12 +5,13 @@ use mathlib.Core.Bool.{true}
 use mathlib.Core.List.{List}
 use mathlib.Core.Path.{_≡_, refl}
 use lib.ListN.{length}
-use Rattle.scheme.specs.Order.{atOrBelow}
+use Rattle.scheme.specs.Schemes.{words}
+use Rattle.scheme.specs.Rule.{wordsAt, under, Lattice}
+use Rattle.scheme.proofs.Rule.{lattice}
 use Rattle.model.specs.Machine.{Machine}
-use Rattle.model.specs.WellFormed.{WellFormed}
 use Rattle.model.specs.Typing.{Ty, int, Typable}
-use Rattle.model.specs.Strength.{whole, unordered, erased, six}
-use Rattle.model.specs.Inference.{Cause, shapes, qualifiers, bounds}
+use Rattle.model.specs.Strength.{whole, unordered, erased}
+use Rattle.model.specs.Inference.{ruling, Cause, shapes, qualifiers, bounds}
 use Rattle.model.proofs.Weaker.{weaker-rules, whole-unordered, unordered-erased}
 use Rattle.graph.specs.Types.{Parts, Reads, Clashes, Intact}
 use Rattle.graph.specs.Search.{Finite}
@@ -18,88 +19,103 @@ use Rattle.qualifiers.specs.Classes.{boundAt, Constant, Bounded}
 use Rattle.qualifiers.proofs.Readings.{some-reading, greatest-reading}
 use Rattle.occurs.proofs.Existence.{reading}
 use Rattle.occurs.proofs.Readings.{finite-of-reading}
+use Rattle.scheme.proofs.Schemes.{sound-few}
 use Rattle.readings.proofs.Rows.{meets-fewer, meets-last, meets-more}
 use Rattle.readings.proofs.Strengths.{none-erased, none-unordered, none-whole, some-erased, some-unordered, some-whole}
 use Rattle.rows.specs.Steps.{Extended, Parted}
+use Rattle.readings.specs.Nodes as Nodes
 use Rattle.solver.specs.State.{After}
+use Rattle.solver.specs.Runs.{Governed}
 use Rattle.solver.proofs.Progress.{Row}
+
+-- The ruling of a well-formed machine is lawful.
+pub rule-lattice : {R : List ℕ} {m : Machine} → Governed R m → Lattice R
+rule-lattice gov = lattice (gov .well-formed .schemes-sound) (gov .ruled)
+
+-- The ruling has as many words as the machine's table.
+module _ {R : List ℕ} {m : Machine} (gov : Governed R m) (v : ℕ → ℕ) where
+  pub to-words : Constant R v → Nodes.Constant (words (m .schemes)) v
+  to-words constant c h = constant c (omega (arith, gov .ruled .words-same))
+
+  pub of-words : Nodes.Constant (words (m .schemes)) v → Constant R v
+  of-words constant c h = constant c (omega (arith, gov .ruled .words-same))
 
 -- No typing at one strength, none at the stronger ones.
 module _ (m : Machine) (n : ℕ) where
-  pub fails-shapes : ¬ Typable (erased six) m n → ¬ Typable (whole six) m n × Cause six m n 21
-  fails-shapes none = (λ some. none (weaker-rules (unordered-erased six) (weaker-rules (whole-unordered six) some)), shapes none)
+  pub fails-shapes : ¬ Typable (erased (ruling m)) m n → ¬ Typable (whole (ruling m)) m n × Cause (ruling m) m n 21
+  fails-shapes none = (λ some. none (weaker-rules (unordered-erased (ruling m)) (weaker-rules (whole-unordered (ruling m)) some)), shapes none)
 
-  pub fails-apart : Typable (erased six) m n → ¬ Typable (unordered six) m n → ¬ Typable (whole six) m n × Cause six m n 22
-  fails-apart some none = (λ typing. none (weaker-rules (whole-unordered six) typing), qualifiers some none)
+  pub fails-apart : Typable (erased (ruling m)) m n → ¬ Typable (unordered (ruling m)) m n → ¬ Typable (whole (ruling m)) m n × Cause (ruling m) m n 22
+  fails-apart some none = (λ typing. none (weaker-rules (whole-unordered (ruling m)) typing), qualifiers some none)
 
-  pub fails-bounds : Typable (unordered six) m n → ¬ Typable (whole six) m n → ¬ Typable (whole six) m n × Cause six m n 23
+  pub fails-bounds : Typable (unordered (ruling m)) m n → ¬ Typable (whole (ruling m)) m n → ¬ Typable (whole (ruling m)) m n × Cause (ruling m) m n 23
   fails-bounds some none = (none, bounds some)
 
 -- Every type is finite.
 abbrev pub AllFinite : List ℕ → List ℕ → List ℕ → Type 0
-AllFinite u k kids = (x : ℕ) → x < 327 → Finite u k kids x
+AllFinite u k kids = (x : ℕ) → x < 329 → Finite u k kids x
 
 -- Every constant is at or below its bound.
-abbrev InBounds : List ℕ → Type 0
-InBounds b = (c : ℕ) → c < 7 → atOrBelow c (boundAt b c) ≡ true
+abbrev InBounds : List ℕ → List ℕ → Type 0
+InBounds R b = (c : ℕ) → c < wordsAt R → under R c (boundAt b c) ≡ true
 
-module _ {m : Machine} (wf : WellFormed m) {kids u k p b : List ℕ} where
-  module _ {n : ℕ} (after : After m kids u k p b n) where
+module _ {R : List ℕ} {m : Machine} (gov : Governed R m) {kids u k p b : List ℕ} where
+  module _ {n : ℕ} (after : After R m kids u k p b n) where
     -- A state that has no reading leaves no typing at all.
-    pub cyclic : ((t : ℕ → Ty ℕ) (v : ℕ → ℕ) → Reads u k kids t v → ⊥) → ¬ Typable (erased six) m n
-    cyclic none = none-erased m wf n (λ t v meets. none t v (after .into t v meets .0))
+    pub cyclic : ((t : ℕ → Ty ℕ) (v : ℕ → ℕ) → Reads u k kids t v → ⊥) → ¬ Typable (erased (ruling m)) m n
+    cyclic none = none-erased m (gov .well-formed) n (λ t v meets. none t v (after .into t v meets .0))
 
     -- A broken bound leaves no typing.
-    pub broken-whole : ((v : ℕ → ℕ) → Constant v → Bounded b v → ⊥) → ¬ Typable (whole six) m n
+    pub broken-whole : ((v : ℕ → ℕ) → Constant R v → Bounded R b v → ⊥) → ¬ Typable (whole (ruling m)) m n
     broken-whole none =
-        none-whole m wf n
-        (λ t v constant coded meets fits. none v constant (after .bounds-into v coded (after .into t v meets .1) fits))
+        none-whole m (gov .well-formed) n R (gov .ruled)
+        (λ t v constant coded meets fits. none v (of-words gov v constant) (after .bounds-into v coded (after .into t v meets .1) fits))
 
     module _ (parts : Parts kids) where
       -- Where every type is finite, leaving out the bounds leaves a typing.
-      pub finite-unordered : AllFinite u k kids → Typable (unordered six) m n
+      pub finite-unordered : AllFinite u k kids → Typable (unordered (ruling m)) m n
       finite-unordered all =
           let qs = some-reading (after .classes) in
           let ts = reading (qs .0) (λ r. int) (after .types) parts all in
-          some-unordered m wf n (ts .0) (qs .0) (qs .2) (after .outof (ts .0) (qs .0) (ts .1) (qs .1))
+          some-unordered m (gov .well-formed) n (ts .0) (qs .0) (to-words gov (qs .0) (qs .2)) (after .outof (ts .0) (qs .0) (ts .1) (qs .1))
 
       -- Where every type is finite and no bound is broken there is a typing.
-      pub finite-whole : AllFinite u k kids → InBounds b → Typable (whole six) m n
+      pub finite-whole : AllFinite u k kids → InBounds R b → Typable (whole (ruling m)) m n
       finite-whole all within =
           let qs = greatest-reading (after .classes) within in
           let g = qs .1 in
           let ts = reading (qs .0) (λ r. int) (after .types) parts all in
-          some-whole m wf n (ts .0) (qs .0) (g .constant) (after .outof (ts .0) (qs .0) (ts .1) (g .linked)) (after .bounds-outof (qs .0) (g .linked) (g .bounded))
+          some-whole m (gov .well-formed) n R (gov .ruled) (ts .0) (qs .0) (to-words gov (qs .0) (g .constant)) (after .outof (ts .0) (qs .0) (ts .1) (g .linked)) (after .bounds-outof (qs .0) (g .linked) (g .bounded))
 
       -- A state that has a reading has only finite types.
-      pub read-whole : {t : ℕ → Ty ℕ} {v : ℕ → ℕ} → Reads u k kids t v → InBounds b → Typable (whole six) m n
+      pub read-whole : {t : ℕ → Ty ℕ} {v : ℕ → ℕ} → Reads u k kids t v → InBounds R b → Typable (whole (ruling m)) m n
       read-whole reads = finite-whole (finite-of-reading reads (after .types) parts)
 
-  module _ {i : ℕ} (in-list : i < length (m .terms)) (after : After m kids u k p b i) where
+  module _ {i : ℕ} (in-list : i < length (m .terms)) (after : After R m kids u k p b i) where
     -- The row's types clash.
-    pub clash-row : Clashes kids u k (Row m i) → ¬ Typable (erased six) m (i + 1)
+    pub clash-row : Clashes kids u k (Row m i) → ¬ Typable (erased (ruling m)) m (i + 1)
     clash-row none =
-        none-erased m wf (i + 1)
+        none-erased m (gov .well-formed) (i + 1)
         (λ t v meets. none t v (after .into t v (meets-fewer m t v i (i + 1) (omega arith) meets) .0) (meets-last m t v i in-list meets))
 
-    module _ {u′ k′ : List ℕ} (apart : Parted kids u k p u′ k′ (Row m i)) where
+    module _ {u′ k′ : List ℕ} (apart : Parted R kids u k p u′ k′ (Row m i)) where
       -- Two constants meet at the row.
-      pub apart-row : ¬ Typable (unordered six) m (i + 1)
+      pub apart-row : ¬ Typable (unordered (ruling m)) m (i + 1)
       apart-row =
-          none-unordered m wf (i + 1)
+          none-unordered m (gov .well-formed) (i + 1)
           (λ t v constant meets.
           let before = after .into t v (meets-fewer m t v i (i + 1) (omega arith) meets) in
-          apart .none t v constant (before .0) (before .1) (meets-last m t v i in-list meets))
+          apart .none t v (of-words gov v constant) (before .0) (before .1) (meets-last m t v i in-list meets))
 
-      pub apart-cyclic : ((t : ℕ → Ty ℕ) (v : ℕ → ℕ) → Reads u′ k′ kids t v → ⊥) → ¬ Typable (erased six) m (i + 1)
+      pub apart-cyclic : ((t : ℕ → Ty ℕ) (v : ℕ → ℕ) → Reads u′ k′ kids t v → ⊥) → ¬ Typable (erased (ruling m)) m (i + 1)
       apart-cyclic none =
           clash-row (λ t v reads holds. none t v (apart .shapes t v reads holds))
 
-      pub apart-finite : Parts kids → AllFinite u′ k′ kids → Typable (erased six) m (i + 1)
+      pub apart-finite : Parts kids → AllFinite u′ k′ kids → Typable (erased (ruling m)) m (i + 1)
       apart-finite parts all =
           let ts = reading {Q = ℕ} (λ x. 0) (λ r. int) (apart .types) parts all in
           let before = apart .erased (ts .0) (ts .1) in
-          some-erased m wf (i + 1) (ts .0) (meets-more m (ts .0) (λ x. 0) i (after .outof (ts .0) (λ x. 0) (before .0) (λ x h. refl)) (before .1))
+          some-erased m (gov .well-formed) (i + 1) (ts .0) (meets-more m (ts .0) (λ x. 0) i (after .outof (ts .0) (λ x. 0) (before .0) (λ x h. refl)) (before .1))
 
 -- A reading with one qualifier for all.
 abbrev pub Readable : List ℕ → List ℕ → List ℕ → Type 0
@@ -112,12 +128,12 @@ module _ {kids u k u′ k′ : List ℕ} (parts : Parts kids) (all : AllFinite u
       let ts = reading {Q = ℕ} (λ x. 0) (λ r. int) (intact .classes) parts all in
       (ts .0, intact .outof (ts .0) (ts .1))
 
-  pub apart-before : {p : List ℕ} {E : (ℕ → Ty ℕ) → (ℕ → ℕ) → Type 0} → Parted kids u k p u′ k′ E → Readable u k kids
+  pub apart-before : {R p : List ℕ} {E : (ℕ → Ty ℕ) → (ℕ → ℕ) → Type 0} → Parted R kids u k p u′ k′ E → Readable u k kids
   apart-before apart =
       let ts = reading {Q = ℕ} (λ x. 0) (λ r. int) (apart .types) parts all in
       (ts .0, apart .erased (ts .0) (ts .1) .0)
 
-  pub broken-before : {p b p′ b′ : List ℕ} {E : (ℕ → Ty ℕ) → (ℕ → ℕ) → Type 0} {F : (ℕ → ℕ) → Type 0} → Extended kids u k p b u′ k′ p′ b′ E F → Readable u k kids
+  pub broken-before : {R p b p′ b′ : List ℕ} {E : (ℕ → Ty ℕ) → (ℕ → ℕ) → Type 0} {F : (ℕ → ℕ) → Type 0} → Extended R kids u k p b u′ k′ p′ b′ E F → Readable u k kids
   broken-before next =
       let ts = reading {Q = ℕ} (λ x. 0) (λ r. int) (next .types) parts all in
       (ts .0, next .outof (ts .0) (λ x. 0) (ts .1) (λ x h. refl) .0)

@@ -4,12 +4,12 @@ use mathlib.Core.Bool.{true}
 use mathlib.Core.List.{List}
 use mathlib.Core.Path.{_≡_}
 use lib.ListN.{length}
-use Rattle.scheme.specs.Order.{atOrBelow}
+use Rattle.scheme.specs.Rule.{wordsAt, under, Ruled}
 use Rattle.model.specs.Machine.{Machine, termIn, termAt}
 use Rattle.model.specs.WellFormed.{WellFormed}
 use Rattle.model.specs.Typing.{Ty, Typable}
-use Rattle.model.specs.Strength.{whole, six}
-use Rattle.model.specs.Inference.{Cause, Refusal, GreatestTyping}
+use Rattle.model.specs.Strength.{whole}
+use Rattle.model.specs.Inference.{ruling, Cause, Refusal, GreatestTyping}
 use Rattle.model.specs.declared.TermRow.{TermRow}
 use Rattle.graph.specs.Types.{Reads}
 use Rattle.graph.specs.Search.{Finite}
@@ -25,37 +25,42 @@ use Rattle.solver.specs.declared.Run.the-variants.{Whole, Least, Stopped
 use Rattle.solver.specs.declared.Answer.{Answer}
 use Rattle.solver.specs.declared.Answer.the-variants.{Placed, Refused}
 
+-- R is the ruling of a well-formed machine.
+pub record Governed (R : List ℕ) (m : Machine) : Type 0 where
+  pub ruled : Ruled (m .schemes) R
+  pub well-formed : WellFormed m
+
 -- The rows up to k have no typing, and the number says why.
 abbrev pub Fails : Machine → ℕ → ℕ → Type 0
-Fails m number k = ¬ Typable (whole six) m (k + 1) × Cause six m (k + 1) number
+Fails m number k = ¬ Typable (whole (ruling m)) m (k + 1) × Cause (ruling m) m (k + 1) number
 
 -- A run that ends at a row: with the number there where every type is finite, and with 21 where there is no reading.
 abbrev pub Halts : List ℕ → List ℕ → List ℕ → ℕ → ℕ → Run → Type 0
 Halts u k kids number row Whole = ⊥
-Halts u k kids number row (Least n r) = (n ≡ number) × (r ≡ row) × ((x : ℕ) → x < 327 → Finite u k kids x)
+Halts u k kids number row (Least n r) = (n ≡ number) × (r ≡ row) × ((x : ℕ) → x < 329 → Finite u k kids x)
 Halts u k kids number row (Stopped n r) = (n ≡ 21) × (r ≡ row) × ((t : ℕ → Ty ℕ) (v : ℕ → ℕ) → Reads u k kids t v → ⊥)
 
 -- The test at the end: every type is finite; or there is no reading.
 abbrev pub Finishes : List ℕ → List ℕ → List ℕ → ℕ → Run → Type 0
-Finishes u k kids rows Whole = (x : ℕ) → x < 327 → Finite u k kids x
+Finishes u k kids rows Whole = (x : ℕ) → x < 329 → Finite u k kids x
 Finishes u k kids rows (Least n r) = ⊥
 Finishes u k kids rows (Stopped n r) = (n ≡ 21) × (r + 1 ≡ rows) × ((t : ℕ → Ty ℕ) (v : ℕ → ℕ) → Reads u k kids t v → ⊥)
 
 -- The state after all the rows asked for, with every type finite and every bound met.
-pub record Ended (m : Machine) (kids u k p b : List ℕ) (rows : ℕ) : Type 0 where
-  pub after : After m kids u k p b rows
-  pub finite : (x : ℕ) → x < 327 → Finite u k kids x
-  pub within : (c : ℕ) → c < 7 → atOrBelow c (boundAt b c) ≡ true
+pub record Ended (R : List ℕ) (m : Machine) (kids u k p b : List ℕ) (rows : ℕ) : Type 0 where
+  pub after : After R m kids u k p b rows
+  pub finite : (x : ℕ) → x < 329 → Finite u k kids x
+  pub within : (c : ℕ) → c < wordsAt R → under R c (boundAt b c) ≡ true
 
 -- A run over the first rows went through, or stopped at the least row that leaves no typing, or at some such row.
-abbrev pub Ran : (m : Machine) (kids u k p b : List ℕ) (rows : ℕ) → Run → Type 0
-Ran m kids u k p b rows Whole = Typable (whole six) m rows × ((rows ≡ 0 → ⊥) → Ended m kids u k p b rows)
-Ran m kids u k p b rows (Least number row) = (row < rows) × Refusal six m number row
-Ran m kids u k p b rows (Stopped number row) = (row < rows) × Fails m number row
+abbrev pub Ran : (R : List ℕ) (m : Machine) (kids u k p b : List ℕ) (rows : ℕ) → Run → Type 0
+Ran R m kids u k p b rows Whole = Typable (whole (ruling m)) m rows × ((rows ≡ 0 → ⊥) → Ended R m kids u k p b rows)
+Ran R m kids u k p b rows (Least number row) = (row < rows) × Refusal (ruling m) m number row
+Ran R m kids u k p b rows (Stopped number row) = (row < rows) × Fails m number row
 
 -- The arrays hold the nodes of the machine's parameters, and its first rows.
-pub record RowsOf (m : Machine) (q ty : List ℕ) (terms : List TermRow) (rows : ℕ) : Type 0 where
-  pub well-formed : WellFormed m
+pub record RowsOf (R : List ℕ) (m : Machine) (q ty : List ℕ) (terms : List TermRow) (rows : ℕ) : Type 0 where
+  pub governed : Governed R m
   pub noted : ParamsNoted (m .params) q ty
   pub same-term : (i : ℕ) → i < rows → (i < length (m .terms)) × (termAt m i ≡ termIn terms i)
 
@@ -64,16 +69,16 @@ abbrev pub RowReady : List ℕ → List ℕ → List TermRow → ℕ → Type 0
 RowReady q ty terms i = RowStands i (termIn terms i) (named q (termIn terms i)) (named ty (termIn terms i))
 
 -- A run from a state that stands for no rows yet, for every machine that the arrays hold.
-abbrev pub RunFrom : (q ty : List ℕ) (terms : List TermRow) (kids₀ u₀ k₀ p₀ b₀ kids u k p b : List ℕ) (rows : ℕ) → Run → Type 0
-RunFrom q ty terms kids₀ u₀ k₀ p₀ b₀ kids u k p b rows r =
-    (m : Machine) → RowsOf m q ty terms rows → After m kids₀ u₀ k₀ p₀ b₀ 0 → Ran m kids u k p b rows r
+abbrev pub RunFrom : (R q ty : List ℕ) (terms : List TermRow) (kids₀ u₀ k₀ p₀ b₀ kids u k p b : List ℕ) (rows : ℕ) → Run → Type 0
+RunFrom R q ty terms kids₀ u₀ k₀ p₀ b₀ kids u k p b rows r =
+    (m : Machine) → RowsOf R m q ty terms rows → After R m kids₀ u₀ k₀ p₀ b₀ 0 → Ran R m kids u k p b rows r
 
 -- Refused at the least row.
 abbrev pub Refuses : Machine → Answer → Type 0
 Refuses m Placed = ⊥
-Refuses m (Refused number row) = Refusal six m number row
+Refuses m (Refused number row) = Refusal (ruling m) m number row
 
 -- The program is placed, with its words and shapes in the codes; or refused at the least row.
 abbrev pub Solves : Machine → Codes → Answer → Type 0
-Solves m codes Placed = GreatestTyping six m (wordOf codes) (shapeOf codes) × Matches m codes (length (m .params)) (length (m .terms))
-Solves m codes (Refused number row) = Refusal six m number row
+Solves m codes Placed = GreatestTyping (ruling m) m (wordOf codes) (shapeOf codes) × Matches m codes (length (m .params)) (length (m .terms))
+Solves m codes (Refused number row) = Refusal (ruling m) m number row

@@ -1,17 +1,19 @@
 // A text's program inferred many times over: what the measure of speed links.
 ghost use Prim.Native.Nat.{_<_};
 ghost use lib.ListN.{length};
-ghost use Rattle.model.specs.WellFormed.{WellFormed};
+ghost use Rattle.scheme.specs.Six.{sixTable};
 ghost use Rattle.model.specs.Text.{Returns};
 ghost use Rattle.table.specs.Lists.{lists};
+ghost use Rattle.table.specs.Ready.{Ready};
+use schemes::Schemes;
 use table::Table;
 
 // Infers the program of a text as often as asked on a buffer of its own, and then answers as the loader's entry does.
 #[no_mangle]
 pub extern "C" fn infer_repeatedly(text: &[u8], times: u32, buffer: &mut [u8]) -> u32
-    ensures { λ r. ⌜ Returns (now (text .entry)) (now (buffer .entry)) r (now (buffer .exit)) ⌝ }
+    ensures { λ r. ⌜ Returns sixTable (now (text .entry)) (now (buffer .entry)) r (now (buffer .exit)) ⌝ }
 {
-    let loaded = text::load(text);
+    let loaded = text::load(Schemes::six(), text);
     infer_times(loaded.table, times);
     placement::placement_report(text, buffer)
 }
@@ -19,15 +21,15 @@ pub extern "C" fn infer_repeatedly(text: &[u8], times: u32, buffer: &mut [u8]) -
 // The same with the solver alone, where the table has a row.
 #[no_mangle]
 pub extern "C" fn solve_repeatedly(text: &[u8], times: u32, buffer: &mut [u8]) -> u32
-    ensures { λ r. ⌜ Returns (now (text .entry)) (now (buffer .entry)) r (now (buffer .exit)) ⌝ }
+    ensures { λ r. ⌜ Returns sixTable (now (text .entry)) (now (buffer .entry)) r (now (buffer .exit)) ⌝ }
 {
-    let loaded = text::load(text);
+    let loaded = text::load(Schemes::six(), text);
     solve_times(loaded.table, times);
     placement::placement_report(text, buffer)
 }
 
 fn infer_times(table: Table, times: u32)
-    requires { ⌜ WellFormed (lists table) ⌝ }
+    requires { ⌜ Ready table ⌝ }
 {
     let mut i = 0;
     while i < times {
@@ -37,14 +39,14 @@ fn infer_times(table: Table, times: u32)
 }
 
 fn infer_once(table: Table)
-    requires { ⌜ WellFormed (lists table) ⌝ }
+    requires { ⌜ Ready table ⌝ }
 {
     let mut buffer = [0u8; 6280];
     inference::infer(table, &mut buffer);
 }
 
 fn solve_times(table: Table, times: u32)
-    requires { ⌜ WellFormed (lists table) ⌝ }
+    requires { ⌜ Ready table ⌝ }
 {
     if table.term_rows() == 0 {
         return;
@@ -57,7 +59,7 @@ fn solve_times(table: Table, times: u32)
 }
 
 fn solve_once(table: Table)
-    requires { ⌜ WellFormed (lists table) × (0 < length (lists table .terms)) ⌝ }
+    requires { ⌜ Ready table × (0 < length (lists table .terms)) ⌝ }
 {
     let mut variables = [0u8; 64];
     let mut param_words = [0u8; 64];

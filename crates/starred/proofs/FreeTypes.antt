@@ -1,7 +1,8 @@
 -- Free types: every qualifier is at or below RAND, and a type that no rule fixes is ANY.
 use mathlib.Core.List.{[], _∷_}
 use mathlib.Core.Path.{refl}
-use Rattle.scheme.specs.Qualifier.{Qualifier, rand}
+use Rattle.scheme.specs.Qualifier.{Qualifier}
+use Rattle.scheme.specs.Six.{rand}
 use Rattle.model.specs.Machine.{Machine}
 use Rattle.model.specs.Typing.{Ty, int, arrow}
 use Rattle.model.specs.declared.Term.the-variants.{Lam, App, Var, Num}
@@ -11,7 +12,7 @@ use Rattle.starred.proofs.Bounds.{plain-below-plain, below-rand}
 use Rattle.starred.proofs.Printed.{AllWithin, loadOf, reportOf, accepted-prints}
 
 -- An arrow from a RAND of type INT to a RAND of the type.
-abbrev rand-of : Ty Qualifier → Ty Qualifier
+abbrev rand-of : Ty (Qualifier 6) → Ty (Qualifier 6)
 rand-of t = arrow rand int rand t
 
 abbrev body-x-machine : Machine

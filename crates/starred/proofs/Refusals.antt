@@ -4,7 +4,6 @@ use mathlib.Core.Bool.{true, false, false≢true}
 use mathlib.Core.List.{[], _∷_}
 use mathlib.Core.Path.{_≡_, refl}
 use Rattle.scheme.specs.Qualifier.{Qualifier}
-use Rattle.scheme.specs.Operation.{highestOf}
 use Rattle.model.specs.Machine.{Machine}
 use Rattle.model.specs.Typing.{arrow, Assignment}
 use Rattle.model.specs.Strength.{whole, unordered, erased, six}
@@ -13,36 +12,35 @@ use Rattle.starred.specs.Starred.{PrintsOutput, sum-of-rand, ah-plus-mh,
 use Rattle.starred.proofs.Typings.{Equations}
 use Rattle.starred.proofs.Refused.{not-own-argument, refused-shapes, refused-qualifiers, refused-bounds}
 use Rattle.starred.proofs.Machines.{noParameter, oneParameter, twoParameters}
-use Rattle.starred.proofs.Bounds.{rand-not-below-ah}
+use Rattle.starred.proofs.Bounds.{rand-not-below-ah, ah-not-mh, add-highest}
 use Rattle.starred.proofs.Printed.{loadOf, refusalOf, refused-prints}
 
 abbrev sum-of-rand-machine : Machine
 sum-of-rand-machine = oneParameter 6 (Var 0 ∷ Var 0 ∷ Op 0 0 1 ∷ Lam 0 2 ∷ [])
 
 -- RAND is not at or below AH.
-sum-of-rand-none : (s : Assignment Qualifier) → ¬ Equations (whole six) sum-of-rand-machine 3 s
-unfolding highestOf
-sum-of-rand-none s e = let z : false ≡ true = cc rand-not-below-ah in false≢true z
+sum-of-rand-none : (s : Assignment (Qualifier 6)) → ¬ Equations (whole six) sum-of-rand-machine 3 s
+sum-of-rand-none s e = let z : false ≡ true = cc (rand-not-below-ah, add-highest) in false≢true z
 
 pub sum-of-rand-prints : PrintsOutput sum-of-rand
 unfolding loadOf refusalOf
 sum-of-rand-prints =
     refused-prints sum-of-rand sum-of-rand-machine refl refl
-    (refused-bounds sum-of-rand-machine 2 (omega arith) (search depth 20) (search depth 20) sum-of-rand-none)
+    (refused-bounds six sum-of-rand-machine 2 (omega arith) (search depth 20) (search depth 20) sum-of-rand-none)
     refl
 
 abbrev ah-plus-mh-machine : Machine
 ah-plus-mh-machine = twoParameters 5 4 (Var 0 ∷ Var 1 ∷ Op 0 0 1 ∷ Lam 1 2 ∷ Lam 0 3 ∷ [])
 
 -- AH is not MH.
-ah-plus-mh-none : (s : Assignment Qualifier) → ¬ Equations (unordered six) ah-plus-mh-machine 3 s
-ah-plus-mh-none s e = let z : false ≡ true = cc in false≢true z
+ah-plus-mh-none : (s : Assignment (Qualifier 6)) → ¬ Equations (unordered six) ah-plus-mh-machine 3 s
+ah-plus-mh-none s e = ah-not-mh cc
 
 pub ah-plus-mh-prints : PrintsOutput ah-plus-mh
 unfolding loadOf refusalOf
 ah-plus-mh-prints =
     refused-prints ah-plus-mh ah-plus-mh-machine refl refl
-    (refused-qualifiers ah-plus-mh-machine 2 (omega arith) (search depth 20) (search depth 20) ah-plus-mh-none)
+    (refused-qualifiers six ah-plus-mh-machine 2 (omega arith) (search depth 20) (search depth 20) ah-plus-mh-none)
     refl
 
 abbrev x-applied-to-x-machine : Machine
@@ -58,7 +56,7 @@ pub x-applied-to-x-prints : PrintsOutput x-applied-to-x
 unfolding loadOf refusalOf
 x-applied-to-x-prints =
     refused-prints x-applied-to-x x-applied-to-x-machine refl refl
-    (refused-shapes x-applied-to-x-machine 2 (omega arith) (search depth 20) x-applied-to-x-none)
+    (refused-shapes six x-applied-to-x-machine 2 (omega arith) (search depth 20) x-applied-to-x-none)
     refl
 
 abbrev number-applied-to-number-machine : Machine
@@ -72,5 +70,5 @@ pub number-applied-to-number-prints : PrintsOutput number-applied-to-number
 unfolding loadOf refusalOf
 number-applied-to-number-prints =
     refused-prints number-applied-to-number number-applied-to-number-machine refl refl
-    (refused-shapes number-applied-to-number-machine 2 (omega arith) (search depth 20) number-applied-to-number-none)
+    (refused-shapes six number-applied-to-number-machine 2 (omega arith) (search depth 20) number-applied-to-number-none)
     refl

@@ -3,6 +3,7 @@
 use Prim.Native.Nat.{ℕ}
 use Prim.Native.String.{String}
 use mathlib.Core.List.{List, [], _∷_, _++_}
+use Rattle.scheme.specs.Six.{sixTable}
 use Rattle.model.specs.Lists.{bytes}
 use Rattle.model.specs.Text.{Prints}
 
@@ -16,9 +17,9 @@ abbrev pub textOf : List String → List ℕ
 textOf [] = []
 textOf (line ∷ lines) = bytes line ++ (10 ∷ textOf lines)
 
--- `place` prints the output of the program.
+-- `place`, which keeps the built-in six, prints the output of the program.
 abbrev pub PrintsOutput : Example → Type 0
-PrintsOutput example = Prints (textOf (example .program)) (textOf (example .output))
+PrintsOutput example = Prints sixTable (textOf (example .program)) (textOf (example .output))
 
 infixr 60 _∷ᴬ_
 -- Every element has the property.

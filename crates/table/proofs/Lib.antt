@@ -1,4 +1,5 @@
 pub mod Counts
+pub mod Names
 pub mod Entries
 pub mod Tests
 pub mod Refusals

@@ -5,10 +5,11 @@ use native.Mathlib.Omega.{arith}
 use mathlib.Core.Bool.{Bool}
 use mathlib.Core.List.{List, [], _∷_, _++_}
 use mathlib.Core.Path.{_≡_, refl, sym, _∙_}
-use lib.Dec.{eqb, ltb, leb}
+use lib.Dec.{eqb, ltb}
 use lib.ListN.{length, take, set, getD, length-take}
 use lib.Seq.{take-suc-set, take-set-lt, take-take, getD-take}
-use borrow.Author.Tests.{ne-eqb, lt-ltb, le-ltb, le-leb, lt-leb, eqb-true, ltb-true}
+use borrow.Author.Tests.{ne-eqb, lt-ltb, le-ltb, eqb-true, ltb-true}
+use Rattle.scheme.specs.Schemes.{words}
 use Rattle.model.specs.Machine.{Machine, noParam, withQualifier, settled, firstFailing, typeRefusal, paramRefusal, termRefusal, entered, redeclared, takenBack}
 use Rattle.model.specs.declared.TypeForm.{TypeForm}
 use Rattle.model.specs.declared.TypeRow.{TypeRow}
@@ -24,13 +25,13 @@ use Rattle.table.proofs.Counts.{Owned, types-whole, params-whole, terms
 
 -- A table with one array and its count changed, and an accepted call's answer.
 abbrev with-types : Table → List TypeRow → ℕ → Table
-with-types t types n = record { types = types; params = t .params; terms = t .terms; typecount = n; paramcount = t .paramcount; termcount = t .termcount }
+with-types t types n = record { types = types; params = t .params; terms = t .terms; typecount = n; paramcount = t .paramcount; termcount = t .termcount; schemes = t .schemes }
 
 abbrev with-params : Table → List Param → ℕ → Table
-with-params t params n = record { types = t .types; params = params; terms = t .terms; typecount = t .typecount; paramcount = n; termcount = t .termcount }
+with-params t params n = record { types = t .types; params = params; terms = t .terms; typecount = t .typecount; paramcount = n; termcount = t .termcount; schemes = t .schemes }
 
 abbrev with-terms : Table → List TermRow → ℕ → Table
-with-terms t terms n = record { types = t .types; params = t .params; terms = terms; typecount = t .typecount; paramcount = t .paramcount; termcount = n }
+with-terms t terms n = record { types = t .types; params = t .params; terms = terms; typecount = t .typecount; paramcount = t .paramcount; termcount = n; schemes = t .schemes }
 
 abbrev accepting : Table → Answered
 accepting t = record { table = t; number = 0 }
@@ -106,20 +107,21 @@ module _ (t : Table) (p code n : ℕ) (count : n ≡ length (lists t .params)) w
   unfolding redeclared firstFailing
   not-declared h = refused t 5 _ _ (simp (← count, le-ltb p n h)) (λ e. omega arith)
 
-  pub code-past : p < n → 70 < code → change (record { table = t; number = 12 }) ≡ redeclared (lists t) p code
-  unfolding redeclared firstFailing
-  code-past h g = refused t 12 _ _ (simp (← count, lt-ltb p n h, lt-leb code 70 g)) (λ e. omega arith)
+  module _ (w : ℕ) (counted : w ≡ words (lists t .schemes)) (h : p < n) where
+    pub code-past : w + 64 ≤ code → change (record { table = t; number = 12 }) ≡ redeclared (lists t) p code
+    unfolding redeclared firstFailing
+    code-past g = refused t 12 _ _ (simp (← count, lt-ltb p n h, ← counted, le-ltb code (w + 64) g)) (λ e. omega arith)
 
-  redeclare-passes : p < n → code ≤ 70 → firstFailing ((5, ltb p (length (lists t .params))) ∷ (12, leb code 70) ∷ []) ≡ 0
-  unfolding firstFailing
-  redeclare-passes h g = simp (← count, lt-ltb p n h, le-leb code 70 g)
+    redeclare-passes : code < w + 64 → firstFailing ((5, ltb p (length (lists t .params))) ∷ (12, ltb code (words (lists t .schemes) + 64)) ∷ []) ≡ 0
+    unfolding firstFailing
+    redeclare-passes g = simp (← count, lt-ltb p n h, ← counted, lt-ltb code (w + 64) g)
 
-  pub redeclare-stored : p < n → code ≤ 70 →
-      change (accepting (with-params t (set (t .params) p (withQualifier code (getD (t .params) p noParam))) (t .paramcount))) ≡ redeclared (lists t) p code
-  unfolding redeclared lists
-  redeclare-stored h g =
-      let below : p < t .paramcount = omega (arith, simp length-take at count) in
-      simp (take-set-lt, getD-take) (accepted _ _ _ (redeclare-passes h g))
+    pub redeclare-stored : code < w + 64 →
+        change (accepting (with-params t (set (t .params) p (withQualifier code (getD (t .params) p noParam))) (t .paramcount))) ≡ redeclared (lists t) p code
+    unfolding redeclared lists
+    redeclare-stored g =
+        let below : p < t .paramcount = omega (arith, simp length-take at count) in
+        simp (take-set-lt, getD-take) (accepted _ _ _ (redeclare-passes g))
 
 module _ (t : Table) (n : ℕ) (count : n ≡ length (lists t .terms)) where
   pub no-term : n ≡ 0 → change (record { table = t; number = 9 }) ≡ takenBack (lists t)

@@ -1,14 +1,15 @@
 -- Every call leaves a well-formed machine well-formed: what stands was checked when it was added, and later entries only make the lists longer.
-use Prim.Native.Nat.{ℕ, _+_, _-_, _≤_, _<_}
+use Prim.Native.Nat.{ℕ, suc, _+_, _-_, _<_}
 use native.Mathlib.Omega.{arith}
 use native.Mathlib.Decide.{ℕ-discrete, decLt}
 use mathlib.Core.Bool.{Bool, true, false, not, _&&_}
 use mathlib.Core.List.{List, [], _∷_, _++_}
 use mathlib.Core.Path.{_≡_, refl, ap, sym, subst, _∙_}
-use lib.Dec.{eqb, ltb, leb}
+use lib.Dec.{eqb, ltb}
 use lib.ListN.{length, getD, take, set, length-append, length-take, length-set, List·getD-append}
 use lib.Seq.{getD-append-seam, getD-set-same, getD-set-other}
-use borrow.Author.Tests.{eqb-true, eq-eqb, ltb-true, leb-true, not-true}
+use borrow.Author.Tests.{eqb-true, eq-eqb, ltb-true, not-true}
+use Rattle.scheme.specs.Schemes.{SchemeTable, words, Sound}
 use Rattle.scheme.proofs.Every.{and-left, and-right}
 use Rattle.model.specs.Lists.{anyOf, allOf, contains}
 use Rattle.model.specs.Line.{lineOf}
@@ -26,14 +27,15 @@ use Rattle.model.specs.declared.Line.the-variants.{TypeLine, ParamLine, TermLin
 use Rattle.model.proofs.Checks.{passed, settled-keeps}
 use Rattle.table.proofs.Tests.{or-cases, or-neither, any-at}
 use Rattle.table.proofs.Entries.{taken}
-use Rattle.table.proofs.Codes.{FormCodes, TermCodes, LineCodes, line-codes}
+use Rattle.table.proofs.Codes.{FormCodes, TermCodes, ParamCodes, LineCodes, line-codes}
 
 none-below-zero : {A : Type 0} (n : ℕ) → n < 0 → A
 none-below-zero n h = let z : ⊥ = omega arith in absurd z
 
-pub fresh-well-formed : WellFormed freshMachine
-fresh-well-formed =
+pub fresh-well-formed : (T : SchemeTable) → Sound T → WellFormed (freshMachine T)
+fresh-well-formed T sound =
     record {
+      schemes-sound = sound;
       types-fit = omega arith;
       params-fit = omega arith;
       terms-fit = omega arith;
@@ -109,27 +111,27 @@ term-passed m i term e =
     record { next = eqb-true i _ (two .0); room = ltb-true _ 256 (three .0); declared = five .0; below = six .0; free = seven .0; unbound = eight .0 }
 
 -- The new entry stands.
-type-stands : (form : TypeForm) (i : ℕ) → FormCodes form → allOf (λ t. ltb t i) (parts form) ≡ true → TypeStands i form
-type-stands Int i codes h = tt
-type-stands Any i codes h = tt
-type-stands (Arrow q t q′ t′) i codes h = (codes .0, ltb-true t i (and-left _ _ h), codes .1, ltb-true t′ i (and-left _ _ (and-right (ltb t i) _ h)))
+type-stands : (names : List (List ℕ)) (form : TypeForm) (i : ℕ) → FormCodes names form → allOf (λ t. ltb t i) (parts form) ≡ true → TypeStands (suc (length names)) i form
+type-stands names Int i codes h = tt
+type-stands names Any i codes h = tt
+type-stands names (Arrow q t q′ t′) i codes h = (codes .0, ltb-true t i (and-left _ _ h), codes .1, ltb-true t′ i (and-left _ _ (and-right (ltb t i) _ h)))
 
-term-stands : (term : Term) (params i : ℕ) → TermCodes term → allOf (λ p. ltb p params) (named term) ≡ true → allOf (λ c. ltb c i) (children term) ≡ true → TermStands params i term
-term-stands (Lam p b) params i codes n h = (ltb-true p params (and-left _ _ n), ltb-true b i (and-left _ _ h))
-term-stands (App f a) params i codes n h = (ltb-true f i (and-left _ _ h), ltb-true a i (and-left _ _ (and-right (ltb f i) _ h)))
-term-stands (Op o l r) params i codes n h = (codes, ltb-true l i (and-left _ _ h), ltb-true r i (and-left _ _ (and-right (ltb l i) _ h)))
-term-stands (Var p) params i codes n h = ltb-true p params (and-left _ _ n)
-term-stands (Num n′) params i codes n h = tt
-term-stands (Enc s n′) params i codes n h = codes
+term-stands : (names : List (List ℕ)) (term : Term) (params i : ℕ) → TermCodes names term → allOf (λ p. ltb p params) (named term) ≡ true → allOf (λ c. ltb c i) (children term) ≡ true → TermStands (suc (length names)) params i term
+term-stands names (Lam p b) params i codes n h = (ltb-true p params (and-left _ _ n), ltb-true b i (and-left _ _ h))
+term-stands names (App f a) params i codes n h = (ltb-true f i (and-left _ _ h), ltb-true a i (and-left _ _ (and-right (ltb f i) _ h)))
+term-stands names (Op o l r) params i codes n h = (codes, ltb-true l i (and-left _ _ h), ltb-true r i (and-left _ _ (and-right (ltb l i) _ h)))
+term-stands names (Var p) params i codes n h = ltb-true p params (and-left _ _ n)
+term-stands names (Num n′) params i codes n h = tt
+term-stands names (Enc s n′) params i codes n h = (codes .0, codes .1)
 
 -- More parameters declared.
-term-stands-more : (term : Term) (params i : ℕ) → TermStands params i term → TermStands (params + 1) i term
-term-stands-more (Lam p b) params i h = (omega arith, h .1)
-term-stands-more (App f a) params i h = h
-term-stands-more (Op o l r) params i h = h
-term-stands-more (Var p) params i h = omega arith
-term-stands-more (Num n) params i h = h
-term-stands-more (Enc s n) params i h = h
+term-stands-more : (w : ℕ) (term : Term) (params i : ℕ) → TermStands w params i term → TermStands w (params + 1) i term
+term-stands-more w (Lam p b) params i h = (omega arith, h .1)
+term-stands-more w (App f a) params i h = h
+term-stands-more w (Op o l r) params i h = h
+term-stands-more w (Var p) params i h = omega arith
+term-stands-more w (Num n) params i h = h
+term-stands-more w (Enc s n) params i h = h
 
 -- No two rows name one number: their children, or the parameters that they bind.
 abbrev Apart : (Term → List ℕ) → List TermRow → Type 0
@@ -183,13 +185,20 @@ different l a b h e same =
     omega arith
 
 module _ (m : Machine) (w : WellFormed m) where
-  type-entered : (i : ℕ) (form : TypeForm) → FormCodes form → TypePassed m i form → WellFormed (record { types = m .types ++ (record { form = form } ∷ []); params = m .params; terms = m .terms })
+  abbrev names : List (List ℕ)
+  names = m .schemes .names
+
+  abbrev wordCount : ℕ
+  wordCount = words (m .schemes)
+
+  type-entered : (i : ℕ) (form : TypeForm) → FormCodes names form → TypePassed m i form → WellFormed (record { schemes = m .schemes; types = m .types ++ (record { form = form } ∷ []); params = m .params; terms = m .terms })
   type-entered i form codes p =
       record {
+        schemes-sound = w .schemes-sound;
         types-fit = simp length-append (omega (arith, p .room));
         params-fit = w .params-fit;
         terms-fit = w .terms-fit;
-        types-stand = each-appended (λ t row. TypeStands t (row .form)) (m .types) (record { form = form }) noTypeRow (w .types-stand) (rw (← p .next) (type-stands form i codes (p .below)));
+        types-stand = each-appended (λ t row. TypeStands wordCount t (row .form)) (m .types) (record { form = form }) noTypeRow (w .types-stand) (rw (← p .next) (type-stands names form i codes (p .below)));
         params-stand = λ q h. (w .params-stand q h .0, simp length-append (omega (arith, w .params-stand q h .1)), w .params-stand q h .2);
         terms-stand = w .terms-stand;
         one-parent = w .one-parent;
@@ -197,52 +206,55 @@ module _ (m : Machine) (w : WellFormed m) where
         one-binder = w .one-binder;
       }
 
-  param-entered : (param : Param) → (param .qualifier ≤ 70) × (param .floor ≤ 6) → ParamPassed m param → WellFormed (record { types = m .types; params = m .params ++ (param ∷ []); terms = m .terms })
+  param-entered : (param : Param) → ParamCodes names param → ParamPassed m param → WellFormed (record { schemes = m .schemes; types = m .types; params = m .params ++ (param ∷ []); terms = m .terms })
   param-entered param codes p =
       record {
+        schemes-sound = w .schemes-sound;
         types-fit = w .types-fit;
         params-fit = simp length-append (omega (arith, p .room));
         terms-fit = w .terms-fit;
         types-stand = w .types-stand;
-        params-stand = each-appended (λ q param. ParamStands (length (m .types)) param) (m .params) param noParam (w .params-stand) (codes .0, p .declared, codes .1);
-        terms-stand = λ i h. simp length-append (term-stands-more (termAt m i) _ i (w .terms-stand i h));
+        params-stand = each-appended (λ q param. ParamStands wordCount (length (m .types)) param) (m .params) param noParam (w .params-stand) (codes .0, p .declared, codes .1);
+        terms-stand = λ i h. simp length-append (term-stands-more wordCount (termAt m i) _ i (w .terms-stand i h));
         one-parent = w .one-parent;
         two-children = w .two-children;
         one-binder = w .one-binder;
       }
 
-  term-entered : (i : ℕ) (term : Term) → TermCodes term → TermPassed m i term → WellFormed (record { types = m .types; params = m .params; terms = m .terms ++ (record { term = term } ∷ []) })
+  term-entered : (i : ℕ) (term : Term) → TermCodes names term → TermPassed m i term → WellFormed (record { schemes = m .schemes; types = m .types; params = m .params; terms = m .terms ++ (record { term = term } ∷ []) })
   term-entered i term codes p =
       record {
+        schemes-sound = w .schemes-sound;
         types-fit = w .types-fit;
         params-fit = w .params-fit;
         terms-fit = simp length-append (omega (arith, p .room));
         types-stand = w .types-stand;
         params-stand = w .params-stand;
-        terms-stand = each-appended (λ j row. TermStands (length (m .params)) j (row .term)) (m .terms) (record { term = term }) noTermRow (w .terms-stand) (rw (← p .next) (term-stands term _ i codes (p .declared) (p .below)));
+        terms-stand = each-appended (λ j row. TermStands wordCount (length (m .params)) j (row .term)) (m .terms) (record { term = term }) noTermRow (w .terms-stand) (rw (← p .next) (term-stands names term _ i codes (p .declared) (p .below)));
         one-parent = apart-appended children (m .terms) (w .one-parent) term (not-true _ (and-left _ _ (p .free)));
         two-children = λ j a b h. each-appended (λ j row. children (row .term) ≡ a ∷ b ∷ [] → a ≡ b → ⊥) (m .terms) (record { term = term }) noTermRow (λ j h. w .two-children j a b h) (different (children term) a b (and-right (not (anyOf (used (m .terms)) (children term))) _ (p .free))) j h;
         one-binder = apart-appended binds (m .terms) (w .one-binder) term (not-true _ (p .unbound));
       }
 
-  entered-well-formed : (line : Line) → LineCodes line → WellFormed (entered m line .machine)
+  entered-well-formed : (line : Line) → LineCodes names line → WellFormed (entered m line .machine)
   unfolding entered
   entered-well-formed (TypeLine i form) codes = settled-keeps WellFormed m _ _ w λ e. type-entered i form codes (type-passed m i form e)
   entered-well-formed (ParamLine p param) codes = settled-keeps WellFormed m _ _ w λ e. param-entered param codes (param-passed m p param e)
   entered-well-formed (TermLine i term) codes = settled-keeps WellFormed m _ _ w λ e. term-entered i term codes (term-passed m i term e)
   entered-well-formed NoForm codes = settled-keeps WellFormed m _ _ w (λ e. w)
 
-  redeclared-stands : (p code : ℕ) → p < length (m .params) → code ≤ 70 → (q : ℕ) → q < length (m .params) →
-      ParamStands (length (m .types)) (getD (set (m .params) p (withQualifier code (paramAt m p))) q noParam)
+  redeclared-stands : (p code : ℕ) → p < length (m .params) → code < wordCount + 64 → (q : ℕ) → q < length (m .params) →
+      ParamStands wordCount (length (m .types)) (getD (set (m .params) p (withQualifier code (paramAt m p))) q noParam)
   redeclared-stands p code h g q l = go (ℕ-discrete q p)
     where
-      go : Dec (q ≡ p) → ParamStands (length (m .types)) (getD (set (m .params) p (withQualifier code (paramAt m p))) q noParam)
+      go : Dec (q ≡ p) → ParamStands wordCount (length (m .types)) (getD (set (m .params) p (withQualifier code (paramAt m p))) q noParam)
       go (yes e) = rw (e, getD-set-same (m .params) p _ _ h) (g, w .params-stand p h .1, w .params-stand p h .2)
       go (no e) = rw (getD-set-other (m .params) p q _ _ e) (w .params-stand q l)
 
-  param-redeclared : (p code : ℕ) → p < length (m .params) → code ≤ 70 → WellFormed (record { types = m .types; params = set (m .params) p (withQualifier code (paramAt m p)); terms = m .terms })
+  param-redeclared : (p code : ℕ) → p < length (m .params) → code < wordCount + 64 → WellFormed (record { schemes = m .schemes; types = m .types; params = set (m .params) p (withQualifier code (paramAt m p)); terms = m .terms })
   param-redeclared p code h g =
       record {
+        schemes-sound = w .schemes-sound;
         types-fit = w .types-fit;
         params-fit = simp length-set (w .params-fit);
         terms-fit = w .terms-fit;
@@ -255,15 +267,16 @@ module _ (m : Machine) (w : WellFormed m) where
       }
 
   -- Fewer rows standing.
-  rows-taken : (k : ℕ) → WellFormed (record { types = m .types; params = m .params; terms = take k (m .terms) })
+  rows-taken : (k : ℕ) → WellFormed (record { schemes = m .schemes; types = m .types; params = m .params; terms = take k (m .terms) })
   rows-taken k =
       record {
+        schemes-sound = w .schemes-sound;
         types-fit = w .types-fit;
         params-fit = w .params-fit;
         terms-fit = simp length-take (omega (arith, w .terms-fit));
         types-stand = w .types-stand;
         params-stand = w .params-stand;
-        terms-stand = λ i h. let at = taken (m .terms) k i noTermRow h in subst (λ (row : TermRow). TermStands (length (m .params)) i (row .term)) (sym (at .1)) (w .terms-stand i (at .0));
+        terms-stand = λ i h. let at = taken (m .terms) k i noTermRow h in subst (λ (row : TermRow). TermStands wordCount (length (m .params)) i (row .term)) (sym (at .1)) (w .terms-stand i (at .0));
         one-parent = apart-taken children (m .terms) (w .one-parent) k;
         two-children = λ i a b h e. let at = taken (m .terms) k i noTermRow h in w .two-children i a b (at .0) (ap (λ (row : TermRow). children (row .term)) (sym (at .1)) ∙ e);
         one-binder = apart-taken binds (m .terms) (w .one-binder) k;
@@ -271,10 +284,10 @@ module _ (m : Machine) (w : WellFormed m) where
 
   pub answers-well-formed : {call : Call} {o : Outcome} {after : Machine} → Answers m call o after → WellFormed after
   unfolding added redeclared takenBack
-  answers-well-formed (adds {line}) = entered-well-formed (lineOf line) (line-codes line)
+  answers-well-formed (adds {line}) = entered-well-formed (lineOf names line) (line-codes names line)
   answers-well-formed (redeclares {p} {code}) =
       settled-keeps WellFormed m _ _ w λ e.
       let five = passed 5 (ltb p (length (m .params))) _ (omega arith) e in
-      param-redeclared p code (ltb-true p _ (five .0)) (leb-true code 70 (passed 12 (leb code 70) [] (omega arith) (five .1) .0))
+      param-redeclared p code (ltb-true p _ (five .0)) (ltb-true code (wordCount + 64) (passed 12 (ltb code (wordCount + 64)) [] (omega arith) (five .1) .0))
   answers-well-formed takes-back = settled-keeps WellFormed m _ _ w (λ e. rows-taken (length (m .terms) - 1))
   answers-well-formed (infers i) = w

@@ -9,6 +9,6 @@ use Rattle.table.specs.declared.Table.{Table}
 use Rattle.table.specs.declared.Answered.{Answered}
 
 pub data Called (t : Table) : Call → Answered → Type 0 where
-  adds : {line : List ℕ} {r : Answered} → change r ≡ added (lists t) line → Called t (add line) r
-  redeclares : {p code : ℕ} {r : Answered} → change r ≡ redeclared (lists t) p code → Called t (redeclare p code) r
-  takes-back : {r : Answered} → change r ≡ takenBack (lists t) → Called t take-back r
+  adds : {line : List ℕ} {r : Answered} → change r ≡ added (lists t) line → r .table .schemes ≡ t .schemes → Called t (add line) r
+  redeclares : {p code : ℕ} {r : Answered} → change r ≡ redeclared (lists t) p code → r .table .schemes ≡ t .schemes → Called t (redeclare p code) r
+  takes-back : {r : Answered} → change r ≡ takenBack (lists t) → r .table .schemes ≡ t .schemes → Called t take-back r

@@ -2,3 +2,4 @@ pub mod Lists
 pub mod Children
 pub mod Sought
 pub mod Called
+pub mod Ready

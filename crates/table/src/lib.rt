@@ -7,6 +7,8 @@ ghost use lib.Dec.{eqb, ltb};
 ghost use lib.ListN.{length};
 ghost use Rattle.model.specs.Lists.{anyOf, allOf};
 ghost use Rattle.model.specs.Machine.{freshMachine, children, binds, parts, used, bound, twice, firstFailing, typeRefusal, paramRefusal, termRefusal, entered, added, redeclared, takenBack};
+ghost use Rattle.scheme.specs.Six.{sixTable};
+ghost use Rattle.schemes.specs.Schemes.{tableIn, Kept};
 ghost use Rattle.table.specs.Lists.{lists, change};
 ghost use Rattle.table.specs.Sought.{namedBy};
 use model::Line;
@@ -15,6 +17,7 @@ use model::Term;
 use model::TermRow;
 use model::TypeForm;
 use model::TypeRow;
+use schemes::Schemes;
 
 pub mod term;
 
@@ -25,7 +28,7 @@ use term::children_of;
 use term::names;
 use term::parameter_declared;
 
-// The entries that stand are the first ones of each array, as many as its count says.
+// The entries that stand are the first ones of each array, as many as its count says; they are read by the scheme table.
 pub struct Table {
     pub types: [TypeRow; 64],
     pub params: [Param; 64],
@@ -33,6 +36,7 @@ pub struct Table {
     pub typecount: usize,
     pub paramcount: usize,
     pub termcount: usize,
+    pub schemes: Schemes,
 }
 
 // What a call hands back: the table, and the number of the refusal, or 0.
@@ -49,9 +53,9 @@ impl Table {
 
     pub const TERMS: usize = 256;
 
-    // No entry stands: what the arrays hold does not matter.
-    pub fn fresh() -> Table
-        ensures { λ r. ⌜ lists r ≡ freshMachine ⌝ }
+    // No entry stands under a scheme table: what the arrays hold does not matter.
+    pub fn empty(schemes: Schemes) -> Table
+        ensures { λ r. ⌜ (lists r ≡ freshMachine (tableIn schemes)) × (r .schemes ≡ schemes) ⌝ }
     {
         let row = TypeRow {
             form: TypeForm::Int,
@@ -69,7 +73,15 @@ impl Table {
             typecount: 0,
             paramcount: 0,
             termcount: 0,
+            schemes,
         }
+    }
+
+    // No entry stands under the built-in six.
+    pub fn fresh() -> Table
+        ensures { λ r. ⌜ (lists r ≡ freshMachine sixTable) × Kept (r .schemes) ⌝ }
+    {
+        Table::empty(Schemes::six())
     }
 
     // How many type rows stand.
@@ -209,7 +221,7 @@ impl Table {
 
     // Stores a type row behind those that stand, unless a check fails.
     fn enter_type(mut self, own: u16, form: TypeForm) -> Answered
-        ensures { λ r. ⌜ change r ≡ entered (lists self) (Line.TypeLine own form) ⌝ }
+        ensures { λ r. ⌜ (change r ≡ entered (lists self) (Line.TypeLine own form)) × (r .table .schemes ≡ self .schemes) ⌝ }
     {
         let number = self.type_refusal(own, form);
         if number != 0 {
@@ -229,7 +241,7 @@ impl Table {
 
     // Stores a parameter behind those that stand, unless a check fails.
     fn enter_param(mut self, own: u16, param: Param) -> Answered
-        ensures { λ r. ⌜ change r ≡ entered (lists self) (Line.ParamLine own param) ⌝ }
+        ensures { λ r. ⌜ (change r ≡ entered (lists self) (Line.ParamLine own param)) × (r .table .schemes ≡ self .schemes) ⌝ }
     {
         let number = self.param_refusal(own, param);
         if number != 0 {
@@ -249,7 +261,7 @@ impl Table {
 
     // Stores a term row behind those that stand, unless a check fails.
     fn enter_term(mut self, own: u16, term: Term) -> Answered
-        ensures { λ r. ⌜ change r ≡ entered (lists self) (Line.TermLine own term) ⌝ }
+        ensures { λ r. ⌜ (change r ≡ entered (lists self) (Line.TermLine own term)) × (r .table .schemes ≡ self .schemes) ⌝ }
     {
         let number = self.term_refusal(own, term);
         if number != 0 {
@@ -269,14 +281,16 @@ impl Table {
 
     // Adds the entry that a line's bytes spell, or refuses it.
     pub fn add(mut self, line: &[u8]) -> Answered
-        ensures { λ r. ⌜ change r ≡ added (lists self) (now (line .entry)) ⌝ }
+        ensures { λ r. ⌜ (change r ≡ added (lists self) (now (line .entry))) × (r .table .schemes ≡ self .schemes) ⌝ }
     {
-        self.enter(line::read(line))
+        let schemes = self.schemes;
+        let names = schemes.names;
+        self.enter(line::read(schemes::front(&names, schemes.size), line))
     }
 
     // Adds the entry of a line, or refuses it.
     pub fn enter(mut self, line: Line) -> Answered
-        ensures { λ r. ⌜ change r ≡ entered (lists self) line ⌝ }
+        ensures { λ r. ⌜ (change r ≡ entered (lists self) line) × (r .table .schemes ≡ self .schemes) ⌝ }
     {
         match line {
             Line::TypeLine(own, form) => self.enter_type(own, form),
@@ -291,7 +305,7 @@ impl Table {
 
     // Replaces a parameter's qualifier.
     pub fn redeclare(mut self, p: usize, code: usize) -> Answered
-        ensures { λ r. ⌜ change r ≡ redeclared (lists self) p code ⌝ }
+        ensures { λ r. ⌜ (change r ≡ redeclared (lists self) p code) × (r .table .schemes ≡ self .schemes) ⌝ }
     {
         if self.parameters() <= p {
             return Answered {
@@ -299,7 +313,10 @@ impl Table {
                 number: 5,
             };
         }
-        if 70 < code {
+        let schemes = self.schemes;
+        let names = schemes.names;
+        let words = line::fields::count(schemes::front(&names, schemes.size)) + 1;
+        if words + 64 <= code {
             return Answered {
                 table: self,
                 number: 12,
@@ -316,7 +333,7 @@ impl Table {
 
     // Drops the last term row.
     pub fn take_back(mut self) -> Answered
-        ensures { λ r. ⌜ change r ≡ takenBack (lists self) ⌝ }
+        ensures { λ r. ⌜ (change r ≡ takenBack (lists self)) × (r .table .schemes ≡ self .schemes) ⌝ }
     {
         let rows = self.term_rows();
         if rows == 0 {

@@ -7,6 +7,7 @@ use mathlib.Core.Path.{_≡_, ap, sym, _∙_}
 use lib.ListN.{length, getD, take, drop, set, length-take, length-drop, drop-of-length-le}
 use lib.Seq.{sets, drop-cons}
 use borrow.Author.Tests.{lt-ltb, le-ltb}
+use Rattle.scheme.specs.Six.{sixTable}
 use Rattle.model.specs.Machine.{Machine, Change, freshMachine}
 use Rattle.table.specs.Lists.{lists, change}
 use Rattle.table.specs.declared.Table.{Table}
@@ -47,14 +48,14 @@ module _ (script : List ℕ) (i : ℕ) where
   part-whole calls room count h = simp (length-take, length-drop) (omega arith)
 
 -- Before the first call.
-module _ (script : List ℕ) (table : Table) (calls : ℕ) (fresh : lists table ≡ freshMachine) where
+module _ (script : List ℕ) (table : Table) (calls : ℕ) (fresh : lists table ≡ freshMachine sixTable) where
   all-left : calls - 0 ≡ calls
   all-left = omega arith
 
-  pub machine-starts : machineAfter (lists table) (callsFrom script 0 (calls - 0)) ≡ machineAfter freshMachine (callsFrom script 0 calls)
+  pub machine-starts : machineAfter (lists table) (callsFrom script 0 (calls - 0)) ≡ machineAfter (freshMachine sixTable) (callsFrom script 0 calls)
   machine-starts = rw (fresh, all-left)
 
-  pub numbers-start : (numbers : List ℕ) → sets numbers 0 (numbersOf (lists table) (callsFrom script 0 (calls - 0))) ≡ sets numbers 0 (numbersOf freshMachine (callsFrom script 0 calls))
+  pub numbers-start : (numbers : List ℕ) → sets numbers 0 (numbersOf (lists table) (callsFrom script 0 (calls - 0))) ≡ sets numbers 0 (numbersOf (freshMachine sixTable) (callsFrom script 0 calls))
   numbers-start numbers = rw (fresh, all-left)
 
 -- One call is answered.

@@ -3,6 +3,7 @@ ghost use mathlib.Core.Path.{_≡_};
 ghost use Prim.Native.Nat.{ℕ, _+_, _≤_, _<_, min};
 ghost use lib.ListN.{length};
 ghost use lib.Seq.{sets};
+ghost use Rattle.scheme.specs.Six.{sixTable};
 ghost use Rattle.model.specs.Machine.{freshMachine};
 ghost use Rattle.table.specs.Lists.{lists, change};
 ghost use Rattle.table_export.specs.Script.{fourBytes, callOf, scriptCalls, answerOf, numbersOf, machineAfter, sizes};
@@ -17,9 +18,9 @@ use dump::dump;
 // Runs the calls of a script, 72 bytes each, as many as there is room for their numbers; then writes the entries, where 3,840 bytes are given.
 #[no_mangle]
 pub extern "C" fn run_calls(script: &[u8], numbers: &mut [u16], entries: &mut [u8]) -> u64
-    ensures counts { λ r. ⌜ r ≡ sizes (machineAfter freshMachine (scriptCalls (now (script .entry)) (length (now (numbers .entry))))) ⌝ }
-    ensures returned { λ r. ⌜ now (numbers .exit) ≡ sets (now (numbers .entry)) 0 (numbersOf freshMachine (scriptCalls (now (script .entry)) (length (now (numbers .entry))))) ⌝ }
-    ensures written { λ r. ⌜ now (entries .exit) ≡ dumped (machineAfter freshMachine (scriptCalls (now (script .entry)) (length (now (numbers .entry))))) (now (entries .entry)) ⌝ }
+    ensures counts { λ r. ⌜ r ≡ sizes (machineAfter (freshMachine sixTable) (scriptCalls (now (script .entry)) (length (now (numbers .entry))))) ⌝ }
+    ensures returned { λ r. ⌜ now (numbers .exit) ≡ sets (now (numbers .entry)) 0 (numbersOf (freshMachine sixTable) (scriptCalls (now (script .entry)) (length (now (numbers .entry))))) ⌝ }
+    ensures written { λ r. ⌜ now (entries .exit) ≡ dumped (machineAfter (freshMachine sixTable) (scriptCalls (now (script .entry)) (length (now (numbers .entry))))) (now (entries .entry)) ⌝ }
 {
     let table = run(script, numbers);
     dump(table, entries);
@@ -28,8 +29,8 @@ pub extern "C" fn run_calls(script: &[u8], numbers: &mut [u16], entries: &mut [u
 
 // Runs the calls from a fresh table, each on the table that the one before it returned.
 fn run(script: &[u8], numbers: &mut [u16]) -> Table
-    ensures after { λ r. ⌜ lists r ≡ machineAfter freshMachine (scriptCalls (now (script .entry)) (length (now (numbers .entry)))) ⌝ }
-    ensures returned { λ r. ⌜ now (numbers .exit) ≡ sets (now (numbers .entry)) 0 (numbersOf freshMachine (scriptCalls (now (script .entry)) (length (now (numbers .entry))))) ⌝ }
+    ensures after { λ r. ⌜ lists r ≡ machineAfter (freshMachine sixTable) (scriptCalls (now (script .entry)) (length (now (numbers .entry)))) ⌝ }
+    ensures returned { λ r. ⌜ now (numbers .exit) ≡ sets (now (numbers .entry)) 0 (numbersOf (freshMachine sixTable) (scriptCalls (now (script .entry)) (length (now (numbers .entry))))) ⌝ }
 {
     let calls = fewer(script.len() / 72, numbers.len());
     let mut table = Table::fresh();

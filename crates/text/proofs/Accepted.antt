@@ -5,6 +5,7 @@ use mathlib.Core.List.{List}
 use mathlib.Core.Path.{_≡_, refl, ap}
 use lib.ListN.{length, length-append}
 use borrow.Author.Tests.{eq-eqb}
+use Rattle.scheme.specs.Schemes.{SchemeTable}
 use Rattle.model.specs.Line.{lineOf}
 use Rattle.model.specs.Machine.{Machine, freshMachine, Change, settled, entered, added}
 use Rattle.model.specs.declared.Line.{Line}
@@ -16,9 +17,9 @@ use Rattle.model.proofs.LongLines.{no-form-entered}
 unfoldable pub entries : Machine → ℕ
 entries m = length (m .types) + length (m .params) + length (m .terms)
 
-pub fresh-entries : entries freshMachine ≡ 0
+pub fresh-entries : (T : SchemeTable) → entries (freshMachine T) ≡ 0
 unfolding entries
-fresh-entries = refl
+fresh-entries T = refl
 
 settled-zero : (m : Machine) (number : ℕ) (after : Machine) → settled m number after .number ≡ 0 → settled m number after .machine ≡ after
 unfolding settled
@@ -33,7 +34,7 @@ entered-longer m NoForm e = let z : ⊥ = omega (arith, ap (λ (c : Change). c .
 
 pub added-longer : (m : Machine) (s : List ℕ) → added m s .number ≡ 0 → entries (added m s .machine) ≡ entries m + 1
 unfolding added
-added-longer m s e = entered-longer m (lineOf s) e
+added-longer m s e = entered-longer m (lineOf (m .schemes .names) s) e
 
 pub entries-most : (m : Machine) → Within m → entries m ≤ 384
 unfolding entries

@@ -9,13 +9,14 @@ use lib.Dec.{eqb}
 use lib.ListN.{length, take, drop, length-take}
 use lib.Seq.{take-nil, take-take}
 use borrow.Author.Tests.{eqb-true}
+use Rattle.scheme.specs.Schemes.{SchemeTable, Sound}
 use Rattle.model.specs.Machine.{Machine, freshMachine, added}
 use Rattle.model.specs.Session.{adds}
 use Rattle.model.specs.Text.{linesOf, stopped, loadFrom, load, Prints, Returns}
 use Rattle.model.proofs.Limits.{Within, fresh-within, answers-within}
 use Rattle.model.proofs.LongLines.{long-refused}
-use Rattle.text.specs.Lines.{lineLength}
-use Rattle.text.proofs.Lines.{line-length-most, line-length-front, lines-first}
+use Rattle.lines.specs.Lines.{lineLength}
+use Rattle.lines.proofs.Lines.{line-length-most, line-length-front, lines-first}
 use Rattle.text.proofs.Accepted.{entries, fresh-entries, added-longer, entries-most}
 use Rattle.text.proofs.Turns.{load-line}
 
@@ -77,24 +78,25 @@ decided (suc k) m n w left =
     decided k (added m s .machine) (n + 1) (answers-within m w adds) (omega (arith, left, added-longer m s e)) room rest (omega arith)
 
 -- 385 lines of at most 64 bytes and a line feed.
-pub load-front : (text : List ℕ) → load (take 25025 text) ≡ load text
-load-front text = decided 384 freshMachine 1 fresh-within (omega (arith, fresh-entries)) 25025 text (omega arith)
+pub load-front : (T : SchemeTable) → Sound T → (text : List ℕ) → load T (take 25025 text) ≡ load T text
+load-front T sound text = decided 384 (freshMachine T) 1 (fresh-within T sound) (omega (arith, fresh-entries T)) 25025 text (omega arith)
 
 -- What is printed and returned of a text rests on what its lines load as, and on nothing else of it.
-module _ {text text′ : List ℕ} (loads : load text ≡ load text′) where
-  pub prints-loaded : {out : List ℕ} → Prints text out → Prints text′ out
+module _ {T : SchemeTable} {text text′ : List ℕ} (loads : load T text ≡ load T text′) where
+  pub prints-loaded : {out : List ℕ} → Prints T text out → Prints T text′ out
   prints-loaded (Prints.refused-add e) = Prints.refused-add (sym loads ∙ e)
   prints-loaded (Prints.refused-inference e j n) = Prints.refused-inference (sym loads ∙ e) j n
   prints-loaded (Prints.reported e j) = Prints.reported (sym loads ∙ e) j
 
-  pub returns-loaded : {buffer b : List ℕ} {n : ℕ} → Returns text buffer n b → Returns text′ buffer n b
+  pub returns-loaded : {buffer b : List ℕ} {n : ℕ} → Returns T text buffer n b → Returns T text′ buffer n b
   returns-loaded (Returns.short h) = Returns.short h
   returns-loaded (Returns.refused-add h e) = Returns.refused-add h (sym loads ∙ e)
   returns-loaded (Returns.refused-inference h e i n) = Returns.refused-inference h (sym loads ∙ e) i n
   returns-loaded (Returns.reported h e i z) = Returns.reported h (sym loads ∙ e) i z
 
-pub prints-front : {text out : List ℕ} → Prints (take 25025 text) out → Prints text out
-prints-front {text} = prints-loaded (load-front text)
+module _ {T : SchemeTable} (sound : Sound T) {text : List ℕ} where
+  pub prints-front : {out : List ℕ} → Prints T (take 25025 text) out → Prints T text out
+  prints-front = prints-loaded (load-front T sound text)
 
-pub returns-front : {text buffer b : List ℕ} {n : ℕ} → Returns (take 25025 text) buffer n b → Returns text buffer n b
-returns-front {text} = returns-loaded (load-front text)
+  pub returns-front : {buffer b : List ℕ} {n : ℕ} → Returns T (take 25025 text) buffer n b → Returns T text buffer n b
+  returns-front = returns-loaded (load-front T sound text)

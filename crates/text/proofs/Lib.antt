@@ -1,4 +1,3 @@
-pub mod Lines
 pub mod Accepted
 pub mod Turns
 pub mod Front

@@ -11,10 +11,10 @@ use Rattle.floors.proofs.lowest_missed.Statement.{statement}
 use Rattle.floors.proofs.lowest_missed.Tie as tie
 
 abbrev Inv-loop : tie.InvT-loop
-Inv-loop count words params p₀ p = ((r : ℕ) → r < p → Holds params words r) × (p ≤ count)
+Inv-loop rule count words params p₀ p = ((r : ℕ) → r < p → Holds rule params words r) × (p ≤ count)
 
 abbrev μ-loop : tie.MeasureT-loop
-μ-loop count words params p₀ p = count - p
+μ-loop rule count words params p₀ p = count - p
 
 loop-holds : tie.Need-loop-holds Inv-loop μ-loop
 loop-holds c = (λ r h. absurd (omega arith), omega arith)
@@ -28,11 +28,11 @@ array-copy-out-param c = omega arith
 element-copy-out-word : tie.Need-element-copy-out-word Inv-loop μ-loop
 element-copy-out-word c = search needs
 
-at-or-below-requires : tie.Need-at-or-below-requires Inv-loop μ-loop
-at-or-below-requires c κs = let codes = c .before .before .before .before .pre .1 (c .before .before .before .loop .p) (omega arith) in (omega arith, omega arith)
+is-under-requires : tie.Need-is-under-requires Inv-loop μ-loop
+is-under-requires c κs = let codes = c .before .before .before .before .pre .1 .1 (c .before .before .before .loop .p) (omega arith) in (c .before .before .before .before .pre .0, (omega arith, omega arith))
 
 returns : tie.Need-returns Inv-loop μ-loop
-returns c = (omega arith, c .before .before .before .before .before .loop .inv .0, λ holds. false≢true (sym (not-true _ (c .if1 .taken)) ∙ c .before .at-or-below .ensures ∙ holds))
+returns c = (omega arith, c .before .before .before .before .before .loop .inv .0, λ holds. false≢true (sym (not-true _ (c .if1 .taken)) ∙ c .before .is-under .ensures ∙ holds))
 
 add-p : tie.Need-add-p Inv-loop μ-loop
 add-p c = omega arith
@@ -41,7 +41,7 @@ loop-less : tie.Need-loop-less Inv-loop μ-loop
 loop-less c = omega arith
 
 loop-again : tie.Need-loop-again Inv-loop μ-loop
-loop-again c = (below-more _ _ (c .before .before .before .before .before .loop .inv .0) (sym (c .before .at-or-below .ensures) ∙ not-false _ (c .if1 .left)), omega arith)
+loop-again c = (below-more _ _ (c .before .before .before .before .before .loop .inv .0) (sym (c .before .is-under .ensures) ∙ not-false _ (c .if1 .left)), omega arith)
 
 returns-2 : tie.Need-returns-2 Inv-loop μ-loop
 returns-2 c = λ p h. c .before .loop .inv .0 p (omega arith)
@@ -56,7 +56,7 @@ lowest-missed-spec =
     mul-param
     array-copy-out-param
     element-copy-out-word
-    at-or-below-requires
+    is-under-requires
     returns
     add-p
     loop-less

@@ -1,9 +1,8 @@
--- The solver is given the arrays of the table that stands.
+-- The solver is given the ruling and the arrays of the table that stands.
 use native.Mathlib.Omega.{arith}
-use mathlib.Core.Path.{sym, subst}
 use borrow.Author.Needs.{needs}
-use Rattle.model.specs.WellFormed.{WellFormed}
-use Rattle.inference.proofs.Judging.{same-machine}
+use Rattle.schemes.specs.Schemes.{tableIn}
+use Rattle.inference.proofs.Judging.{same-machine, machine-governed}
 use Rattle.inference.proofs.solve.Statement.{statement}
 use Rattle.inference.proofs.solve.Tie as tie
 
@@ -18,10 +17,20 @@ term-rows-requires c κs = search needs
 
 solve-requires : tie.Need-solve-requires
 solve-requires c κs =
-    (subst WellFormed (sym (same-machine (c .before .before .before .before .before .before .before .before .before .before .before .args .table) _ _ _ (c .before .before .before .before .before .before .before .type-rows .ensures .0) (c .before .before .before .before .before .before .parameters .ensures .0) (c .before .before .before .before .before .term-rows .ensures .0))) (c .before .before .before .before .before .before .before .before .before .before .before .pre .0), (c .before .before .before .before .before .before .before .type-rows .ensures .1, c .before .before .before .before .before .before .parameters .ensures .1, omega (arith, c .before .before .before .before .before .before .before .before .before .before .before .pre .1, c .before .before .before .before .before .term-rows .ensures .0), c .before .before .before .before .before .term-rows .ensures .1))
+    let start = c .before .before .before .before .before .before .before .before .before .before .before .before .before .before in
+    let types = c .before .before .before .before .before .before .before .type-rows .ensures in
+    let params = c .before .before .before .before .before .before .parameters .ensures in
+    let terms = c .before .before .before .before .before .term-rows .ensures in
+    ((tableIn (start .args .table .schemes), machine-governed (start .args .table) (start .pre .0) _ _ _ (types .0) (params .0) (terms .0)), (types .1, params .1, omega (arith, start .pre .1, terms .0), terms .1))
 
 returns : tie.Need-returns
-returns c = rw (same-machine (c .before .before .before .before .before .before .before .before .before .before .before .before .args .table) _ _ _ (c .before .before .before .before .before .before .before .before .type-rows .ensures .0) (c .before .before .before .before .before .before .before .parameters .ensures .0) (c .before .before .before .before .before .before .term-rows .ensures .0)) at (c .solve .ensures)
+returns c =
+    let start = c .before .before .before .before .before .before .before .before .before .before .before .before .before .before .before in
+    let types = c .before .before .before .before .before .before .before .before .type-rows .ensures in
+    let params = c .before .before .before .before .before .before .before .parameters .ensures in
+    let terms = c .before .before .before .before .before .before .term-rows .ensures in
+    let governed = machine-governed (start .args .table) (start .pre .0) _ _ _ (types .0) (params .0) (terms .0) in
+    rw (same-machine (start .args .table) _ _ _ (types .0) (params .0) (terms .0)) at (c .solve .ensures (tableIn (start .args .table .schemes)) governed)
 
 pub solve-spec : {M : Type 1} → statement M
 solve-spec =

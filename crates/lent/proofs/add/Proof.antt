@@ -1,5 +1,5 @@
 -- `lent::add` meets its contract: `Lending.antt` walks the body, and what stands here is the function's own locals and parameters.
-use mathlib.Core.Path.{refl}
+use mathlib.Core.Path.{_≡_, refl}
 use Prim.Native.Nat.{ℕ}
 use mathlib.Core.List.{[], _∷_, List}
 use lib.ListN.{length}
@@ -32,7 +32,7 @@ use denote.Triple.Walked.{says, Stays, stay-none-slice, stay-ref, walkOf, goes-n
 use denote.Triple.Clauses.{lasts}
 use Rattle.model.specs.Machine.{added}
 use Rattle.table.specs.declared.Table.{Table}
-use Rattle.table.specs.Lists.{lists}
+use Rattle.table.specs.Lists.{lists, change}
 use Rattle.table.proofs.Table as T
 use Rattle.table.proofs.Table.add as g
 use Rattle.table.proofs.Table.add.Symbol as g-def
@@ -71,7 +71,7 @@ module _ {M : Type 1} (𝓤 : URA M) (H : Heap 𝓤) (A : Atoms 𝓤) (W : Given
         pass1 ! (init ! 6 refl (tt, tt)) $ pass1 ! (init ! 4 refl (shr-slice-lawful 𝓤 H A W (named 1) κ₂ u8 .typed s (line ∷ []) is .0)) $ pass0 ! $
         -- [room for _4; …; room for _3; …; _2; …; _1; …; room for _0; …; the observation; the borrow; its token; the other tokens; the arguments; the same]
         move ! (10 ∷ 11 ∷ 12 ∷ 13 ∷ 14 ∷ 0 ∷ 2 ∷ 6 ∷ 8 ∷ []) $
-        changes ! h fm Callee known (((κ₂, tt), (q₂, tt), tt, (h, (s, tt)), (table-vals h, (line ∷ [], tt))), tt) (id⊢ 𝓤 _) (lasts g.ended (κ₂, tt) (h, (s, tt))) (added (lists h) (s .now)) (λ v. id⊢ 𝓤 _) refl refl refl refl
+        changes ! h fm Callee known (((κ₂, tt), (q₂, tt), tt, (h, (s, tt)), (table-vals h, (line ∷ [], tt))), tt) (id⊢ 𝓤 _) (lasts g.ended (κ₂, tt) (h, (s, tt))) (λ r. (change r ≡ added (lists h) (s .now)) × (r .table .schemes ≡ h .schemes)) (λ v. id⊢ 𝓤 _) refl refl refl refl
         (and-then ! (passes ! 15 refl) (no-more !)) refl (λ r fits e.
         -- [the observation; the borrow; its token; the other tokens; _4; _3; _1; _0; …; …; _2; …; …; …; the arguments]
         returns ! (look ! 7 refl) $ move ! (7 ∷ 13 ∷ 6 ∷ 12 ∷ 10 ∷ 11 ∷ 5 ∷ 9 ∷ 4 ∷ 8 ∷ []) $ freed ! $ freed ! $ freed ! $ freed ! $ freed ! $ free0 ! $

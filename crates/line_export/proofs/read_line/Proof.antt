@@ -9,6 +9,7 @@ read-line-spec =
     tie.close
     (tie.spec
     (λ c. search (read-short, needs))
+    (λ c. search needs)
     (λ c κs. search needs)
     (λ c κs. search needs)
     (λ c. search needs)

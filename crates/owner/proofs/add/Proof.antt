@@ -1,5 +1,5 @@
 -- `owner::add` meets its contract: `Owning.antt` walks the body, and what stands here is the function's own locals and parameters. The line's lifetime has the token that the call is passed.
-use mathlib.Core.Path.{refl}
+use mathlib.Core.Path.{_≡_, refl}
 use Prim.Native.Nat.{ℕ}
 use mathlib.Core.List.{[], _∷_, List}
 use lib.ListN.{length}
@@ -34,7 +34,7 @@ use denote.Triple.Table.{entered, cited}
 use denote.Triple.Walked.{says, Stays, stay-none, stay-none-slice, walkOf, goes-none, goes-none-slice, ends-at, walked, walk-meets}
 use Rattle.model.specs.Machine.{added}
 use Rattle.table.specs.declared.Table.{Table}
-use Rattle.table.specs.Lists.{lists}
+use Rattle.table.specs.Lists.{lists, change}
 use Rattle.table.proofs.Table as T
 use Rattle.table.proofs.Table.Laws as T′
 use Rattle.lent.proofs.Lending.{table-vals, answered-vals, passes, freed}
@@ -80,7 +80,7 @@ module _ {M : Type 1} (𝓤 : URA M) (H : Heap 𝓤) (A : Atoms 𝓤) (W : Given
         pass1 ! (init ! 10 refl (LL.lawful T.the-type T′.the-laws 𝓤 H A W .typed h _ is .0)) $ pass1 ! (init ! 8 refl (shr-slice-lawful 𝓤 H A W (named 0) κ u8 .typed s (line ∷ []) is-line .0)) $ pass0 ! $
         -- [room for _6; …; room for _5; …; room for _4; …; room for _3; …; _2; …; _1; …; room for _0; …; the tokens; the arguments; the same]
         move ! (14 ∷ 15 ∷ 0 ∷ 2 ∷ 4 ∷ 6 ∷ 10 ∷ 12 ∷ []) $
-        changes ! h is fm Callee known (x l₃) (λ α γ. id⊢ 𝓤 _) (λ (_ : Unit {0} × Unit {0}). fsep ftrue ftrue) (added (lists h) (s .now)) (λ α γ v. id⊢ 𝓤 _) refl refl refl refl refl refl
+        changes ! h is fm Callee known (x l₃) (λ α γ. id⊢ 𝓤 _) (λ (_ : Unit {0} × Unit {0}). fsep ftrue ftrue) (λ r. (change r ≡ added (lists h) (s .now)) × (r .table .schemes ≡ h .schemes)) (λ α γ v. id⊢ 𝓤 _) refl refl refl refl refl refl
         (λ α γ. and-then ! (passes ! 15 refl) (no-more !)) (λ α γ. refl) (λ h′ n are e.
         -- [the tokens; _6; _5; _4; _3; _1; _0; …; …; …; …; _2; …; …; …; the arguments]
         returns ! (look ! 6 refl) $ move ! (6 ∷ 14 ∷ 5 ∷ 13 ∷ 11 ∷ 12 ∷ 4 ∷ 10 ∷ 3 ∷ 9 ∷ 2 ∷ 8 ∷ 1 ∷ 7 ∷ []) $ freed ! $ freed ! $ freed ! $ freed ! $ freed ! $ freed ! $ freed ! $ free0 ! $

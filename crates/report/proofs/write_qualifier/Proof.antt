@@ -1,20 +1,19 @@
--- The bytes of the array that is written spell the word.
+-- The word of a code is PLAIN, or the field of the names that stands before its code.
 use borrow.Author.Needs.{needs}
-use Rattle.report.proofs.Words.{spelled-room, spelled-wrote}
+use Rattle.report.proofs.Words.{plain-room, plain-wrote, name-room, name-wrote}
 use Rattle.report.proofs.write_qualifier.Statement.{statement}
 use Rattle.report.proofs.write_qualifier.Tie as tie
 
-qualifier-word-requires : tie.Need-qualifier-word-requires
-qualifier-word-requires c = search needs
-
-write-word-requires : tie.Need-write-word-requires
-write-word-requires c κs = (search needs, search (spelled-room, needs))
-
-same-length : tie.Need-same-length
-same-length c = search needs
-
-returns : tie.Need-returns
-returns c = search (spelled-wrote, needs)
-
 pub write-qualifier-spec : {M : Type 1} → statement M
-write-qualifier-spec = tie.close (tie.spec qualifier-word-requires write-word-requires same-length returns)
+write-qualifier-spec =
+    tie.close
+    (tie.spec
+    (λ c. search needs)
+    (λ c κs. search (plain-room, needs))
+    (λ c. search needs)
+    (λ c. search (plain-wrote, needs))
+    (λ c. search needs)
+    (λ c κs. search needs)
+    (λ c κs. search (name-room, needs))
+    (λ c. search needs)
+    (λ c. search (name-wrote, needs)))

@@ -1,6 +1,7 @@
 -- The loop has left to write the lines of the slots from i on.
 use Prim.Native.Nat.{_-_, _≤_}
 use native.Mathlib.Omega.{arith}
+use Rattle.model.specs.Line.{fields}
 use Rattle.model.specs.Report.{lines}
 use Rattle.report.specs.Writing.{slotAt}
 use Rattle.report.proofs.Writing.{Left, left-length}
@@ -9,14 +10,14 @@ use Rattle.report.proofs.write_slots.Statement.{statement}
 use Rattle.report.proofs.write_slots.Tie as tie
 
 abbrev Inv-loop : tie.InvT-loop
-Inv-loop buffer₀ at tag words shapes count next₀ i₀ buffer next i =
-    (i ≤ count) × Left buffer next (lines (slotAt tag words shapes) i (count - i)) buffer₀ at (lines (slotAt tag words shapes) 0 count)
+Inv-loop buffer₀ at names tag codes shapes count next₀ i₀ buffer next i =
+    (i ≤ count) × Left buffer next (lines (slotAt (fields names) tag codes shapes) i (count - i)) buffer₀ at (lines (slotAt (fields names) tag codes shapes) 0 count)
 
 abbrev μ-loop : tie.MeasureT-loop
-μ-loop buffer₀ at tag words shapes count next₀ i₀ buffer next i = count - i
+μ-loop buffer₀ at names tag codes shapes count next₀ i₀ buffer next i = count - i
 
 loop-holds : tie.Need-loop-holds Inv-loop μ-loop
-loop-holds c = (omega arith, turn-start _ _ (c .before .before .before .pre .2))
+loop-holds c = (omega arith, turn-start _ _ (c .before .before .before .before .pre .2))
 
 shared-slice-read-write-slot : tie.Need-shared-slice-read-write-slot Inv-loop μ-loop
 shared-slice-read-write-slot c = omega arith

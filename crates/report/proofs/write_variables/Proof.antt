@@ -2,6 +2,7 @@
 use Prim.Native.Nat.{_-_, _≤_, _<_}
 use native.Mathlib.Omega.{arith}
 use lib.ListN.{length}
+use Rattle.model.specs.Line.{fields}
 use Rattle.model.specs.Report.{lines}
 use Rattle.report.specs.Writing.{variableAt}
 use Rattle.report.proofs.Writing.{Left, left-length}
@@ -10,14 +11,14 @@ use Rattle.report.proofs.write_variables.Statement.{statement}
 use Rattle.report.proofs.write_variables.Tie as tie
 
 abbrev Inv-loop : tie.InvT-loop
-Inv-loop buffer₀ at variables next₀ k₀ buffer next k =
-    (k ≤ 64) × Left buffer next (lines (variableAt variables) k (64 - k)) buffer₀ at (lines (variableAt variables) 0 64)
+Inv-loop buffer₀ at names variables next₀ k₀ buffer next k =
+    (k ≤ 64) × Left buffer next (lines (variableAt (fields names) variables) k (64 - k)) buffer₀ at (lines (variableAt (fields names) variables) 0 64)
 
 abbrev μ-loop : tie.MeasureT-loop
-μ-loop buffer₀ at variables next₀ k₀ buffer next k = 64 - k
+μ-loop buffer₀ at names variables next₀ k₀ buffer next k = 64 - k
 
 loop-holds : tie.Need-loop-holds Inv-loop μ-loop
-loop-holds c = (omega arith, turn-start _ 64 (c .before .before .pre .1))
+loop-holds c = (omega arith, turn-start _ 64 (c .before .before .before .pre .1))
 
 shared-slice-read-write-variable : tie.Need-shared-slice-read-write-variable Inv-loop μ-loop
 shared-slice-read-write-variable c = omega arith
@@ -25,8 +26,8 @@ shared-slice-read-write-variable c = omega arith
 write-variable-requires : tie.Need-write-variable-requires Inv-loop μ-loop
 write-variable-requires c κs =
     let at-k = c .before .before .before in
-    let below : at-k .loop .k < length (at-k .before .before .before .args .variables .now) = omega arith in
-    rw (variable-read _ _ below) at (turn-room _ _ 64 (at-k .loop .inv .1) (c .before .before .loop-test .taken))
+    let below : at-k .loop .k < length (at-k .before .before .before .before .args .variables .now) = omega arith in
+    rw (variable-read _ _ _ below) at (turn-room _ _ 64 (at-k .loop .inv .1) (c .before .before .loop-test .taken))
 
 add-k : tie.Need-add-k Inv-loop μ-loop
 add-k c = omega arith
@@ -37,9 +38,9 @@ loop-less c = omega arith
 loop-again : tie.Need-loop-again Inv-loop μ-loop
 loop-again c =
     let at-k = c .before .before .before .before .before .before in
-    let below : at-k .loop .k < length (at-k .before .before .before .args .variables .now) = omega arith in (
+    let below : at-k .loop .k < length (at-k .before .before .before .before .args .variables .now) = omega arith in (
       omega arith,
-      turn-left _ _ 64 (at-k .loop .inv .1) (c .before .before .before .before .before .loop-test .taken) (rw (variable-read _ _ below) (c .before .before .write-variable .ensures)),
+      turn-left _ _ 64 (at-k .loop .inv .1) (c .before .before .before .before .before .loop-test .taken) (rw (variable-read _ _ _ below) (c .before .before .write-variable .ensures)),
     )
 
 same-length : tie.Need-same-length Inv-loop μ-loop

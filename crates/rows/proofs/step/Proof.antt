@@ -48,7 +48,7 @@ op-row-requires c κs =
     let a = c .before .before .before .before .before .before .before in
     let row = a .pre .1 .1 .1 .0 in
     let stands = rw (c .before .before .before .before .before .term2 .given .1) at (row .0 .stands) in
-    (a .pre .0, (a .pre .1 .1 .0, ((row .0 .in-list, stands .1, stands .2), a .pre .1 .1 .1 .1 .qualifiers)))
+    (a .pre .0, (a .pre .1 .1 .0, ((row .0 .in-list, stands .1, stands .2, stands .0), a .pre .1 .1 .1 .1 .qualifiers)))
 
 enum-known-term-3 : tie.Need-enum-known-term-3
 enum-known-term-3 c = search needs

@@ -3,8 +3,7 @@ use Prim.Native.Nat.{_-_}
 use mathlib.Core.Path.{_≡_, refl}
 use lib.ListN.{length}
 use borrow.Author.Needs.{needs}
-use Rattle.text.proofs.Turns.{end-fits}
-use Rattle.text.proofs.Lines.{end-bound}
+use Rattle.lines.proofs.Lines.{end-bound, end-fits}
 use Rattle.script.proofs.Conversing.{Left, turns}
 use Rattle.script.proofs.converse.Statement.{statement}
 use Rattle.script.proofs.converse.Tie as tie

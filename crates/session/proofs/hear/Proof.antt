@@ -1,9 +1,8 @@
 -- Each turn leaves fewer bytes of the part.
-use Prim.Native.Nat.{_-_}
+use Prim.Native.Nat.{_-_, _*_, _^_, _<_}
 use borrow.Author.Needs.{needs}
 use lib.ListN.{length}
-use Rattle.text.proofs.Lines.{end-bound}
-use Rattle.text.proofs.Turns.{end-fits}
+use Rattle.lines.proofs.Lines.{end-bound, end-fits}
 use Rattle.session.specs.Going.{Going}
 use Rattle.session.proofs.hear.Statement.{statement}
 use Rattle.session.proofs.hear.Tie as tie
@@ -42,7 +41,8 @@ returns-2 : tie.Need-returns-2 Inv-loop μ-loop
 returns-2 c = search (end-bound, end-fits, needs)
 
 add-from : tie.Need-add-from Inv-loop μ-loop
-add-from c = search (end-bound, end-fits, needs)
+add-from c =
+    search (end-fits, c .before .before .before .before .before .before .before .before .before .before .good, c .before .before .before .before .before .before .before .before .before .shared-slice-known, c .before .before .before .before .before .before .before .before .before .shared-slice-known .given, c .before .before .before .before .before .before .before .loop-test .taken, c .before .before .before .before .before .before .line-end .ensures)
 
 loop-less : tie.Need-loop-less Inv-loop μ-loop
 loop-less c = search (end-bound, end-fits, needs)

@@ -1,9 +1,8 @@
 -- Each turn is one fewer to come.
 use native.Mathlib.Omega.{arith}
 use borrow.Author.Needs.{needs}
-use mathlib.Core.Path.{sym, subst}
-use Rattle.model.specs.WellFormed.{WellFormed}
-use Rattle.table.proofs.WellFormed.{fresh-well-formed}
+use Rattle.scheme.specs.Six.{sixTable}
+use Rattle.table.proofs.Follows.{fresh-ready}
 use Rattle.session.specs.Going.{Going}
 use Rattle.session.proofs.main.Statement.{statement}
 use Rattle.session.proofs.main.Tie as tie
@@ -18,7 +17,7 @@ fresh-requires : tie.Need-fresh-requires Inv-loop μ-loop
 fresh-requires c κs = search needs
 
 loop-holds : tie.Need-loop-holds Inv-loop μ-loop
-loop-holds c = record { well-formed = subst WellFormed (sym (c .fresh .ensures)) fresh-well-formed; kept = omega arith }
+loop-holds c = record { ready = fresh-ready sixTable (c .fresh .ensures .0) (c .fresh .ensures .1); kept = omega arith }
 
 listen-requires : tie.Need-listen-requires Inv-loop μ-loop
 listen-requires c κs = search needs

@@ -10,7 +10,7 @@ keep-requires : tie.Need-keep-requires
 keep-requires c κs = search needs
 
 returns : tie.Need-returns
-returns c = record { well-formed = c .before .before .before .before .before .before .pre .well-formed; kept = c .before .keep .ensures .fits (c .before .before .before .before .before .before .pre .kept) }
+returns c = record { ready = c .before .before .before .before .before .before .pre .ready; kept = c .before .keep .ensures .fits (c .before .before .before .before .before .before .pre .kept) }
 
 pub with-part-spec : {M : Type 1} → statement M
 with-part-spec = tie.close (tie.spec slice-aggregate-keep keep-requires returns)

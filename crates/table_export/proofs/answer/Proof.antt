@@ -36,7 +36,7 @@ add-requires c κs = search needs
 
 returns : tie.Need-returns
 unfolding answerOf
-returns c = c .add .ensures ∙ ap (answerOf (lists (c .before .before .before .before .before .before .before .before .args .table))) (call-adds _ (c .before .before .before .before .before .before .before .before .pre) (c .before .before .before .before .before .if1 .taken) _ _ (c .before .before .before .wide .ensures .0) (c .before .before .fewer .ensures))
+returns c = c .add .ensures .0 ∙ ap (answerOf (lists (c .before .before .before .before .before .before .before .before .args .table))) (call-adds _ (c .before .before .before .before .before .before .before .before .pre) (c .before .before .before .before .before .if1 .taken) _ _ (c .before .before .before .wide .ensures .0) (c .before .before .fewer .ensures))
 
 shared-slice-read-if2 : tie.Need-shared-slice-read-if2
 shared-slice-read-if2 c = search needs
@@ -52,14 +52,14 @@ redeclare-requires c κs = search needs
 
 returns-2 : tie.Need-returns-2
 unfolding answerOf
-returns-2 c = c .redeclare .ensures ∙ ap (answerOf (lists (c .before .before .before .before .before .before .before .before .args .table))) (call-redeclares _ (c .before .before .before .before .before .if1 .left) (c .before .before .before .if2 .taken) _ _ (c .before .before .four-bytes .ensures) (c .before .four-bytes2 .ensures))
+returns-2 c = c .redeclare .ensures .0 ∙ ap (answerOf (lists (c .before .before .before .before .before .before .before .before .args .table))) (call-redeclares _ (c .before .before .before .before .before .if1 .left) (c .before .before .before .if2 .taken) _ _ (c .before .before .four-bytes .ensures) (c .before .four-bytes2 .ensures))
 
 take-back-requires : tie.Need-take-back-requires
 take-back-requires c κs = search needs
 
 returns-3 : tie.Need-returns-3
 unfolding answerOf
-returns-3 c = c .take-back .ensures ∙ ap (answerOf (lists (c .before .before .before .before .before .before .args .table))) (call-takes-back _ (c .before .before .before .if1 .left) (c .before .if2 .left))
+returns-3 c = c .take-back .ensures .0 ∙ ap (answerOf (lists (c .before .before .before .before .before .before .args .table))) (call-takes-back _ (c .before .before .before .if1 .left) (c .before .if2 .left))
 
 pub answer-spec : {M : Type 1} → statement M
 answer-spec =

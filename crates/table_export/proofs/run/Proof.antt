@@ -4,6 +4,7 @@ use mathlib.Core.Path.{_≡_, refl, ap, _∙_}
 use lib.ListN.{length, length-set}
 use lib.Seq.{sets}
 use borrow.Author.Needs.{needs}
+use Rattle.scheme.specs.Six.{sixTable}
 use Rattle.model.specs.Machine.{freshMachine}
 use Rattle.table.specs.Lists.{lists}
 use Rattle.table_export.specs.Script.{callsFrom, numbersOf, machineAfter}
@@ -15,8 +16,8 @@ abbrev Inv-loop : tie.InvT-loop
 Inv-loop script numbers₀ calls table₀ i₀ numbers table i =
     (i ≤ calls)
     × (length numbers ≡ length numbers₀)
-    × (machineAfter (lists table) (callsFrom script i (calls - i)) ≡ machineAfter freshMachine (callsFrom script 0 calls))
-    × (sets numbers i (numbersOf (lists table) (callsFrom script i (calls - i))) ≡ sets numbers₀ 0 (numbersOf freshMachine (callsFrom script 0 calls)))
+    × (machineAfter (lists table) (callsFrom script i (calls - i)) ≡ machineAfter (freshMachine sixTable) (callsFrom script 0 calls))
+    × (sets numbers i (numbersOf (lists table) (callsFrom script i (calls - i))) ≡ sets numbers₀ 0 (numbersOf (freshMachine sixTable) (callsFrom script 0 calls)))
 
 abbrev μ-loop : tie.MeasureT-loop
 μ-loop script numbers₀ calls table₀ i₀ numbers table i = calls - i
@@ -28,7 +29,7 @@ fresh-requires : tie.Need-fresh-requires Inv-loop μ-loop
 fresh-requires c κs = search needs
 
 loop-holds : tie.Need-loop-holds Inv-loop μ-loop
-loop-holds c = (search needs, refl, machine-starts (c .before .before .before .before .args .script .now) _ (c .before .fewer .result) (c .fresh .ensures), numbers-start (c .before .before .before .before .args .script .now) _ (c .before .fewer .result) (c .fresh .ensures) (c .before .before .before .before .args .numbers .now))
+loop-holds c = (search needs, refl, machine-starts (c .before .before .before .before .args .script .now) _ (c .before .fewer .result) (c .fresh .ensures .0), numbers-start (c .before .before .before .before .args .script .now) _ (c .before .fewer .result) (c .fresh .ensures .0) (c .before .before .before .before .args .numbers .now))
 
 mul-at : tie.Need-mul-at Inv-loop μ-loop
 mul-at c = search needs
@@ -67,7 +68,7 @@ same-length : tie.Need-same-length Inv-loop μ-loop
 same-length c = c .before .loop .inv .1
 
 returns : tie.Need-returns Inv-loop μ-loop
-returns c = let a = c .before .before .before .before .before .before .args in let done = calls-done (a .script .now) (c .before .loop .table) (c .before .before .before .fewer .result) (c .before .loop .i) (c .before .loop .numbers) _ _ (c .before .loop .inv .2) (c .before .loop .inv .3) (c .loop-test .left) in (done .0 ∙ ap (λ n. machineAfter freshMachine (callsFrom (a .script .now) 0 n)) (c .before .before .before .fewer .ensures), done .1 ∙ ap (λ n. sets (a .numbers .now) 0 (numbersOf freshMachine (callsFrom (a .script .now) 0 n))) (c .before .before .before .fewer .ensures))
+returns c = let a = c .before .before .before .before .before .before .args in let done = calls-done (a .script .now) (c .before .loop .table) (c .before .before .before .fewer .result) (c .before .loop .i) (c .before .loop .numbers) _ _ (c .before .loop .inv .2) (c .before .loop .inv .3) (c .loop-test .left) in (done .0 ∙ ap (λ n. machineAfter (freshMachine sixTable) (callsFrom (a .script .now) 0 n)) (c .before .before .before .fewer .ensures), done .1 ∙ ap (λ n. sets (a .numbers .now) 0 (numbersOf (freshMachine sixTable) (callsFrom (a .script .now) 0 n))) (c .before .before .before .fewer .ensures))
 
 pub run-spec : {M : Type 1} → statement M
 run-spec =

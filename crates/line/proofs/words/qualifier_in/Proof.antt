@@ -1,12 +1,10 @@
 -- The words come first, then the named variables.
 use borrow.Author.Needs.{needs}
-use Rattle.model.specs.Word.{qualifierOf}
-use Rattle.line.proofs.Spelling.{else-first, else-second}
+use Rattle.line.proofs.Spelling.{word-first, variable-second}
 use Rattle.line.proofs.words.qualifier_in.Statement.{statement}
 use Rattle.line.proofs.words.qualifier_in.Tie as tie
 
 pub qualifier-in-spec : {M : Type 1} → statement M
-unfolding qualifierOf
 qualifier-in-spec =
     tie.close
     (tie.spec
@@ -14,5 +12,7 @@ qualifier-in-spec =
     (λ c. search needs)
     (λ c. search needs)
     (λ c κs. search needs)
-    (λ c. search (else-first, needs))
-    (λ c. search (else-second, needs)))
+    (λ c. search needs)
+    (λ c κs. search needs)
+    (λ c. search (word-first, needs))
+    (λ c. search (variable-second, needs)))

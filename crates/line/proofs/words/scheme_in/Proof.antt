@@ -1,4 +1,4 @@
--- The byte string's fields are the definition's words.
+-- A place among the names.
 use borrow.Author.Needs.{needs}
 use Rattle.model.specs.Word.{schemeOf}
 use Rattle.line.proofs.words.scheme_in.Statement.{statement}
@@ -6,4 +6,4 @@ use Rattle.line.proofs.words.scheme_in.Tie as tie
 
 pub scheme-in-spec : {M : Type 1} → statement M
 unfolding schemeOf
-scheme-in-spec = tie.close (tie.spec (λ c. search needs) (λ c κs. search needs) (λ c. search needs))
+scheme-in-spec = tie.close (tie.spec (λ c κs. search needs) (λ c. search needs))

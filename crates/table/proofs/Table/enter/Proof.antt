@@ -1,5 +1,5 @@
 -- Each kind of line has its own call.
-use mathlib.Core.Path.{sym, ap, _∙_}
+use mathlib.Core.Path.{refl, sym, ap, _∙_}
 use borrow.Author.Needs.{needs}
 use Rattle.model.specs.Machine.{entered}
 use Rattle.table.specs.Lists.{lists}
@@ -29,16 +29,16 @@ enum-told : tie.Need-enum-told
 enum-told c = search needs
 
 returns : tie.Need-returns
-returns c = c .enter-type .ensures ∙ ap (entered (lists (c .before .before .before .before .args .self))) (sym (c .before .before .line .given .1))
+returns c = (c .enter-type .ensures .0 ∙ ap (entered (lists (c .before .before .before .before .args .self))) (sym (c .before .before .line .given .1)), c .enter-type .ensures .1)
 
 returns-2 : tie.Need-returns-2
-returns-2 c = c .enter-param .ensures ∙ ap (entered (lists (c .before .before .before .before .args .self))) (sym (c .before .before .line2 .given .1))
+returns-2 c = (c .enter-param .ensures .0 ∙ ap (entered (lists (c .before .before .before .before .args .self))) (sym (c .before .before .line2 .given .1)), c .enter-param .ensures .1)
 
 returns-3 : tie.Need-returns-3
-returns-3 c = c .enter-term .ensures ∙ ap (entered (lists (c .before .before .before .before .args .self))) (sym (c .before .before .line3 .given .1))
+returns-3 c = (c .enter-term .ensures .0 ∙ ap (entered (lists (c .before .before .before .before .args .self))) (sym (c .before .before .line3 .given .1)), c .enter-term .ensures .1)
 
 returns-4 : tie.Need-returns-4
-returns-4 c = no-form (c .before .before .args .self) ∙ ap (entered (lists (c .before .before .args .self))) (sym (c .enum-told .given .1))
+returns-4 c = (no-form (c .before .before .args .self) ∙ ap (entered (lists (c .before .before .args .self))) (sym (c .enum-told .given .1)), refl)
 
 pub enter-spec : {M : Type 1} → statement M
 enter-spec =

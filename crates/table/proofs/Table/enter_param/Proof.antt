@@ -1,4 +1,5 @@
 -- A refusal leaves the lists; an accepted parameter is stored behind those standing, where there is room.
+use mathlib.Core.Path.{refl}
 use borrow.Author.Needs.{needs}
 use Rattle.model.specs.Machine.{entered}
 use Rattle.table.proofs.Stored.{refused, param-room, param-stored}
@@ -10,7 +11,7 @@ param-refusal-requires c κs = search needs
 
 returns : tie.Need-returns
 unfolding entered
-returns c = refused _ _ _ _ (c .before .param-refusal .ensures) (c .if1 .taken)
+returns c = (refused _ _ _ _ (c .before .param-refusal .ensures) (c .if1 .taken), refl)
 
 mul-param : tie.Need-mul-param
 mul-param c = search needs
@@ -22,7 +23,7 @@ add-self : tie.Need-add-self
 add-self c = search needs
 
 returns-2 : tie.Need-returns-2
-returns-2 c = param-stored (c .before .before .args .t1) (c .before .before .good .0) _ _ (c .if1 .left) _ (c .before .param-refusal .ensures)
+returns-2 c = (param-stored (c .before .before .args .t1) (c .before .before .good .0) _ _ (c .if1 .left) _ (c .before .param-refusal .ensures), refl)
 
 pub enter-param-spec : {M : Type 1} → statement M
 enter-param-spec =

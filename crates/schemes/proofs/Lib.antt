@@ -1,0 +1,9 @@
+pub mod Forms
+pub mod Lines
+pub mod Apart
+pub mod Storing
+pub mod Names
+pub mod Written
+pub mod Entries
+pub mod Six
+pub mod Opening
