@@ -13,6 +13,7 @@ use Rattle.model.specs.Lists.{contains, bytes}
 use Rattle.model.specs.Word.{qualifierWords, capitals, wordOf, qualifierOf, qualifierWord}
 use Rattle.model.specs.Line.{field, lineOf}
 use Rattle.model.specs.Machine.{Machine, freshMachine, paramAt}
+use Rattle.model.specs.SchemeFile.{opened}
 use Rattle.model.specs.Closed.{Closed}
 use Rattle.model.specs.Typing.{Typable}
 use Rattle.model.specs.Strength.{whole}
@@ -30,7 +31,7 @@ use Rattle.table.specs.Lists.{lists}
 use Rattle.table.specs.Called.{Called}
 use Rattle.table.specs.declared.Table.{Table}
 use Rattle.inference.specs.Ran.{Step, changes, Ran}
-use Rattle.inference.proofs.Follows.{tables-follow, session-follows}
+use Rattle.inference.proofs.Follows.{tables-follow, files-follow, session-follows}
 use Rattle.inference.proofs.Corollaries.{open-exactly, refused-untypable, untypable-refused, reported-greatest}
 use Rattle.answered.proofs.Answered.{every-list-answered as list-has-answers}
 use Rattle.text.proofs.Front.{prints-front, returns-front}
@@ -100,6 +101,10 @@ demand-2 before rest session = let answer = session-standing before rest session
 -- for every accepted scheme table, and the built-in six are one instance"; `Table::fresh` ensures the premise of that instance.
 pub demand-3-of-tables : {t : Table} {trace : List (Call × Outcome)} (T : SchemeTable) → lists t ≡ freshMachine T → Kept (t .schemes) → Ran t trace → Session (freshMachine T) trace
 demand-3-of-tables = tables-follow
+
+-- "The file comes as bytes to the call that makes the fresh machine": `Table::open` ensures the premise, for a refused file of the six's machine.
+pub demand-3-of-files : {t : Table} {trace : List (Call × Outcome)} (file : List ℕ) → (lists t ≡ opened file .machine) × Kept (t .schemes) → Ran t trace → Session (opened file .machine) trace
+demand-3-of-files = files-follow
 
 pub demand-3 : {t : Table} {trace : List (Call × Outcome)} → (lists t ≡ freshMachine sixTable) × Kept (t .schemes) → Ran t trace → Session (freshMachine sixTable) trace
 demand-3 = session-follows

@@ -14,12 +14,14 @@ use denote.Ref.{RefT}
 use Rattle.scheme.specs.Six.{sixTable}
 use Rattle.schemes.specs.Schemes.{Kept}
 use Rattle.model.specs.Machine.{freshMachine}
+use Rattle.model.specs.SchemeFile.{opened}
 use Rattle.model.specs.Session.{returning, add, redeclare, take-back, infer}
 use Rattle.table.specs.declared.Table.{Table}
 use Rattle.table.specs.declared.Answered.{Answered}
-use Rattle.table.specs.Lists.{lists}
+use Rattle.table.specs.Lists.{lists, change}
 use Rattle.table.specs.Called.{adds, redeclares, takes-back}
 use Rattle.table.proofs.Table.fresh as table-fresh
+use Rattle.table.proofs.Table.open as table-open
 use Rattle.table.proofs.Table.add as table-add
 use Rattle.table.proofs.Table.redeclare as table-redeclare
 use Rattle.table.proofs.Table.take_back as table-take-back
@@ -34,6 +36,10 @@ module _ {M : Type 1} (𝓤 : URA M) (H : Heap 𝓤) (A : Atoms 𝓤) (at-mem : 
   -- The premise of demand 3.
   pub fresh-contract : (κs : Lfts 0) (r : Table) → ent 𝓤 (table-fresh.clauses 𝓤 H A at-mem run κs tt .ensures tt r tt) (fact 𝓤 ((lists r ≡ freshMachine sixTable) × Kept (r .schemes)))
   fresh-contract κs r = fact-mono 𝓤 _ _ (λ e. e)
+
+  pub open-contract : (κs : Lfts 1) (file file′ : RefT (List ℕ)) (r : Answered) →
+      ent 𝓤 (table-open.clauses 𝓤 H A at-mem run κs (file, tt) .ensures tt r (file′, tt)) (fact 𝓤 ((change r ≡ opened (file .now)) × Kept (r .table .schemes)))
+  open-contract κs file file′ r = fact-mono 𝓤 _ _ (λ e. e)
 
   module _ (t t′ : Table) where
     pub add-contract : (κs : Lfts 1) (line line′ : RefT (List ℕ)) (r : Answered) →
@@ -52,9 +58,12 @@ module _ {M : Type 1} (𝓤 : URA M) (H : Heap 𝓤) (A : Atoms 𝓤) (at-mem : 
         ent 𝓤 (inference-infer.clauses 𝓤 H A at-mem run κs (t, (buffer, tt)) .ensures tt r (t′, (buffer′, tt))) (fact 𝓤 (Step t (infer (buffer .now)) (outcome r (buffer′ .now)) t))
     infer-contract κs buffer buffer′ r = fact-mono 𝓤 _ _ (λ said. infers (λ ready. said))
 
-  -- The three calls and the fresh table ask for nothing.
+  -- The three calls, the fresh table and a file's ask for nothing.
   pub fresh-requires : (κs : Lfts 0) → ent 𝓤 (emp 𝓤) (table-fresh.clauses 𝓤 H A at-mem run κs tt .requires tt)
   fresh-requires κs = id⊢ 𝓤 _
+
+  pub open-requires : (κs : Lfts 1) (file : RefT (List ℕ)) → ent 𝓤 (emp 𝓤) (table-open.clauses 𝓤 H A at-mem run κs (file, tt) .requires tt)
+  open-requires κs file = id⊢ 𝓤 _
 
   pub add-requires : (κs : Lfts 1) (t : Table) (line : RefT (List ℕ)) → ent 𝓤 (emp 𝓤) (table-add.clauses 𝓤 H A at-mem run κs (t, (line, tt)) .requires tt)
   add-requires κs t line = id⊢ 𝓤 _

@@ -4,7 +4,9 @@ use mathlib.Core.Path.{_≡_, subst}
 use Rattle.scheme.specs.Schemes.{SchemeTable}
 use Rattle.scheme.specs.Six.{sixTable}
 use Rattle.schemes.specs.Schemes.{Kept}
+use Prim.Native.Nat.{ℕ}
 use Rattle.model.specs.Machine.{Machine, freshMachine}
+use Rattle.model.specs.SchemeFile.{openedWith, opened}
 use Rattle.model.specs.Session.{Call, Outcome, Answers, Session}
 use Rattle.model.specs.Session as Session′
 use Rattle.table.specs.Lists.{lists}
@@ -31,6 +33,10 @@ ran-follows ready (next step rest) = Session′.next (step-follows ready step) (
 pub tables-follow : {t : Table} {trace : List (Call × Outcome)} (T : SchemeTable) → lists t ≡ freshMachine T → Kept (t .schemes) → Ran t trace → Session (freshMachine T) trace
 tables-follow {t} {trace} T fresh kept ran = subst (λ (m : Machine). Session m trace) fresh (ran-follows (fresh-ready T fresh kept) ran)
 
--- The same of the built-in six.
+-- The same of an owner's file, refused ones included, and of the built-in six.
+pub files-follow : {t : Table} {trace : List (Call × Outcome)} (file : List ℕ) → (lists t ≡ opened file .machine) × Kept (t .schemes) → Ran t trace → Session (opened file .machine) trace
+unfolding openedWith
+files-follow file (fresh, kept) ran = tables-follow (opened file .machine .schemes) fresh kept ran
+
 pub session-follows : {t : Table} {trace : List (Call × Outcome)} → (lists t ≡ freshMachine sixTable) × Kept (t .schemes) → Ran t trace → Session (freshMachine sixTable) trace
 session-follows (fresh, kept) ran = tables-follow sixTable fresh kept ran

@@ -2,16 +2,19 @@
 use Prim.Native.Nat.{ℕ, _+_, _≤_}
 use native.Mathlib.Omega.{arith}
 use mathlib.Core.List.{List}
-use mathlib.Core.Path.{_≡_, ap, _∙_}
+use mathlib.Core.Path.{_≡_, ap, ap₂, _∙_}
 use lib.ListN.{length, take, length-take}
 use Rattle.scheme.specs.Schemes.{words}
 use Rattle.schemes.specs.Schemes.{tableIn}
+use Rattle.schemes.specs.Reads.{Reads}
+use Rattle.schemes.specs.declared.Opened.{Opened}
 use Rattle.model.specs.Line.{fields, lineOf}
-use Rattle.model.specs.Machine.{entered, added}
+use Rattle.model.specs.Machine.{Machine, freshMachine, entered, added}
+use Rattle.model.specs.SchemeFile.{openedWith, opened}
 use Rattle.model.specs.declared.Line.{Line}
 use Rattle.line.specs.Names.{Few}
 use Rattle.line.proofs.Parting.{fields-most}
-use Rattle.table.specs.Lists.{lists}
+use Rattle.table.specs.Lists.{lists, change}
 use Rattle.table.specs.declared.Table.{Table}
 
 -- No text of 47 bytes has more than 48 fields.
@@ -30,3 +33,8 @@ module _ (t : Table) (text : List ℕ) (is : text ≡ take (t .schemes .size) (t
   pub words-counted : (n : ℕ) → n ≡ length (fields text) → n + 1 ≡ words (lists t .schemes)
   unfolding lists tableIn
   words-counted n count = omega (arith, count, ap (λ (names : List ℕ). length (fields names)) is)
+
+-- What opening a file leaves is the machine's change.
+pub opened-change : (file : List ℕ) (o : Opened) (t : Table) → Reads file o → lists t ≡ freshMachine (tableIn (o .schemes)) → change (record { table = t; number = o .number }) ≡ opened file
+unfolding openedWith
+opened-change file o t reads empty = ap₂ (λ (n : ℕ) (m : Machine). record { number = n; machine = m }) (reads .refusal) (empty ∙ ap freshMachine (reads .table))

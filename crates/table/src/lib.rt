@@ -9,6 +9,7 @@ ghost use Rattle.model.specs.Lists.{anyOf, allOf};
 ghost use Rattle.model.specs.Machine.{freshMachine, children, binds, parts, used, bound, twice, firstFailing, typeRefusal, paramRefusal, termRefusal, entered, added, redeclared, takenBack};
 ghost use Rattle.scheme.specs.Six.{sixTable};
 ghost use Rattle.schemes.specs.Schemes.{tableIn, Kept};
+ghost use Rattle.model.specs.SchemeFile.{opened};
 ghost use Rattle.table.specs.Lists.{lists, change};
 ghost use Rattle.table.specs.Sought.{namedBy};
 use model::Line;
@@ -82,6 +83,18 @@ impl Table {
         ensures { λ r. ⌜ (lists r ≡ freshMachine sixTable) × Kept (r .schemes) ⌝ }
     {
         Table::empty(Schemes::six())
+    }
+
+    // No entry stands under the scheme table of an owner's file; a refused file has its number, and the built-in six.
+    pub fn open(file: &[u8]) -> Answered
+        ensures { λ r. ⌜ (change r ≡ opened (now (file .entry))) × Kept (r .table .schemes) ⌝ }
+    {
+        let opened = Schemes::open(file);
+        let table = Table::empty(opened.schemes);
+        Answered {
+            table,
+            number: opened.number,
+        }
     }
 
     // How many type rows stand.
