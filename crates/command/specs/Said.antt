@@ -2,14 +2,16 @@
 use Prim.Native.Nat.{ℕ}
 use mathlib.Core.List.{List}
 use lib.ListN.{drop}
+use Rattle.model.specs.Script.{fileIn}
 use Rattle.model.specs.Script as Script
 use Rattle.command.specs.declared.Command.{Command}
-use Rattle.command.specs.declared.Command.the-variants.{Add, Redeclare, TakeBack, Infer, Nothing}
+use Rattle.command.specs.declared.Command.the-variants.{Add, Redeclare, TakeBack, Infer, Schemes, Nothing}
 
--- The line of an add is what follows the command's word and its blank.
+-- The line of an add, and a scheme file, are what follows the command's word and its blank.
 unfoldable pub said : Command → List ℕ → Script.Command
 said Add s = Script.add (drop 4 s)
 said (Redeclare p code) s = Script.redeclare p code
 said TakeBack s = Script.take-back
 said Infer s = Script.infer
+said Schemes s = Script.schemes (fileIn (drop 8 s))
 said Nothing s = Script.no-command

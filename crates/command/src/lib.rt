@@ -9,12 +9,13 @@ use line::words::same;
 use lines::find;
 use model::Field;
 
-// A command; the line of an add starts after its first four bytes, "add ".
+// A command; the line of an add starts after its first four bytes, "add ", and the lines of a scheme file after their eight, "schemes ".
 pub enum Command {
     Add,
     Redeclare(u32, u32),
     TakeBack,
     Infer,
+    Schemes,
     Nothing,
 }
 
@@ -33,6 +34,9 @@ pub fn read(s: &[u8]) -> Command
     }
     if same(s, b"infer") {
         return Command::Infer;
+    }
+    if begins(s, b"schemes ") {
+        return Command::Schemes;
     }
     Command::Nothing
 }

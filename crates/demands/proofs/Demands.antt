@@ -10,6 +10,7 @@ use Rattle.scheme.specs.Six.{sixTable}
 use Rattle.scheme.proofs.Six.{six-sound}
 use Rattle.schemes.specs.Schemes.{Kept}
 use Rattle.model.specs.Lists.{contains, bytes}
+use Rattle.model.specs.Number.{decimal}
 use Rattle.model.specs.Word.{qualifierWords, capitals, wordOf, qualifierOf, qualifierWord}
 use Rattle.model.specs.Line.{field, lineOf}
 use Rattle.model.specs.Machine.{Machine, freshMachine, paramAt}
@@ -18,13 +19,14 @@ use Rattle.model.specs.Closed.{Closed}
 use Rattle.model.specs.Typing.{Typable}
 use Rattle.model.specs.Strength.{whole}
 use Rattle.model.specs.Inference.{ruling, Slot, Shape, Refusal, GreatestTyping}
-use Rattle.model.specs.Report.{report}
+use Rattle.model.specs.Report.{line, report}
 use Rattle.model.specs.Session.{Call, add, redeclare, take-back, infer, Outcome, returning, Infers, Answers, adds, redeclares, takes-back, Session}
-use Rattle.model.specs.Text.{linesOf, Prints, Returns}
+use Rattle.model.specs.Text.{linesOf, Prints, Returns, ReturnsUnder}
 use Rattle.model.specs.Script.{commandOf, Makes, Replies, Conversation, largest, Responds}
 use Rattle.model.specs.declared.Field.the-variants.{Value}
 use Rattle.model.specs.declared.Line.the-variants.{NoForm}
 use Rattle.model.proofs.Answers.{session-same}
+use Rattle.model.proofs.Files.{six-file}
 use Rattle.model.proofs.LongLines.{reply-front}
 use Rattle.line.proofs.RoundTrip.{word-exactly}
 use Rattle.table.specs.Lists.{lists}
@@ -36,6 +38,7 @@ use Rattle.inference.proofs.Corollaries.{open-exactly, refused-untypable, untyp
 use Rattle.answered.proofs.Answered.{every-list-answered as list-has-answers}
 use Rattle.text.proofs.Front.{prints-front, returns-front}
 use Rattle.text.proofs.Same.{prints-same, returns-same}
+use Rattle.text.proofs.Under.{under-same, under-front, six-under}
 use Rattle.starred.specs.Starred.{All}
 use Rattle.demands.specs.Refusals.{HasAnswer, RefusedExactly}
 use Rattle.demands.specs.Standing.{standing}
@@ -44,7 +47,7 @@ use Rattle.demands.specs.Completion.{ReportsTyping, ReportsAboveFloors}
 use Rattle.demands.specs.Traces.{callsOf, outcomesOf}
 use Rattle.demands.specs.Replacements.{reportIn}
 use Rattle.demands.specs.InTurn.{InTurn}
-use Rattle.demands.specs.Scripts.{OneSession, commandFor, Spelled, unspelledNumbers, scriptOf, answersOf, Alike}
+use Rattle.demands.specs.Scripts.{OneList, InSessions, OneSession, StaysOn, commandFor, commandForFile, Spelled, unspelledNumbers, scriptOf, answersOf, Alike}
 use Rattle.demands.specs.EitherCase.{SameButCase, SameCallButCase}
 use Rattle.demands.proofs.Exactly.{refused-exactly, answers-zero}
 use Rattle.demands.proofs.Standing.{session-standing}
@@ -52,7 +55,8 @@ use Rattle.demands.proofs.FloorsStay.{floor-stays}
 use Rattle.demands.proofs.Completion.{reports-typing, answered-reports}
 use Rattle.demands.proofs.Floors.{accepted-greatest, missed-greatest, above-floors, accepted-some, missed-every}
 use Rattle.demands.proofs.LeftOut.{unspelled-refused}
-use Rattle.demands.proofs.Scripts.{one-session, responds-same, spelled-makes, script-lines, script-alike, list-converses}
+use Rattle.demands.proofs.Scripts.{in-sessions, one-session, responds-same, spelled-makes, script-lines, script-list, list-converses}
+use Rattle.demands.proofs.SchemeCommands.{file-converses}
 use Rattle.demands.proofs.EitherCase.{lines-alike, session-alike, prints-alike, returns-alike, other-tag, variable-letter}
 use Rattle.demands.proofs.ReportCapitals.{reported-capitals}
 
@@ -203,17 +207,32 @@ returned-front = returns-front six-sound
 pub returned-determined : {text buffer b b′ : List ℕ} {n n′ : ℕ} → Returns sixTable text buffer n b → Returns sixTable text buffer n′ b′ → (n ≡ n′) × (b ≡ b′)
 returned-determined = returns-same sixTable six-sound
 
--- The session. What the contract of `placement_session` says of a script: its calls are one list of demand 3, and all that is written is that
--- list's answers. Every slice is shorter than the largest number.
-pub script-is-a-session : {script output after : List ℕ} {n : ℕ} → length output < largest → Responds script output n after → OneSession script output n after
+-- Document 02, d). What the contract of `placement_report_under` says is determined by the file, the text and the buffer; the text's front decides.
+pub returned-under-determined : (file : List ℕ) {text buffer b b′ : List ℕ} {n n′ : ℕ} → ReturnsUnder file text buffer n b → ReturnsUnder file text buffer n′ b′ → (n ≡ n′) × (b ≡ b′)
+returned-under-determined = under-same
+
+pub returned-under-front : (file : List ℕ) {text buffer b : List ℕ} {n : ℕ} → ReturnsUnder file (take 25025 text) buffer n b → ReturnsUnder file text buffer n b
+returned-under-front = under-front
+
+-- "the built-in six are one instance": under the six's own file every text returns what `placement_report` returns.
+pub returned-under-six : {text buffer b : List ℕ} {n : ℕ} → ReturnsUnder six-file text buffer n b → Returns sixTable text buffer n b
+returned-under-six = six-under
+
+-- The session. What the contract of `placement_session` says of a script: its calls are lists of demand 3, one for each scheme file that it starts
+-- with, and all that is written is the answers. Every slice is shorter than the largest number.
+pub script-is-sessions : {script output after : List ℕ} {n : ℕ} → length output < largest → Responds script output n after → InSessions script output n after
+script-is-sessions = in-sessions
+
+-- A script that starts no other table is one list.
+pub script-is-a-session : {script output after : List ℕ} {n : ℕ} → length output < largest → All StaysOn (linesOf script) → Responds script output n after → OneSession script output n after
 script-is-a-session = one-session
 
 -- What is returned and what is written are determined by the script and the output.
 pub session-determined : {script output after after′ : List ℕ} {n n′ : ℕ} → Responds script output n after → Responds script output n′ after′ → (n ≡ n′) × (after ≡ after′)
 session-determined = responds-same
 
--- A line's first 69 bytes decide its answer; the program `session` keeps no more of a line.
-pub session-front : {m after : Machine} {s w : List ℕ} → Sound (m .schemes) → Replies m (take 69 s) w after → Replies m s w after
+-- A line's first 121 bytes decide its answer; the program `session` keeps no more of a line.
+pub session-front : {m after : Machine} {s w : List ℕ} → Sound (m .schemes) → Replies m (take 121 s) w after → Replies m s w after
 session-front = reply-front
 
 -- Every list of calls is a script. The line for a call makes that call, and the script of a list has these lines.
@@ -224,12 +243,18 @@ pub lines-of-script : {calls : List Call} → All Spelled calls → linesOf (scr
 lines-of-script = script-lines
 
 -- So every conversation with the script of a list makes these calls in turn, each the same but for the bytes of an infer's buffer.
-pub every-list-is-a-script : {calls : List Call} {answers : List ℕ} → All Spelled calls → (c : Conversation (scriptOf calls) answers) → InTurn Alike calls (callsOf (c .trace))
-every-list-is-a-script = script-alike
+pub every-list-is-a-script : {calls : List Call} {answers : List ℕ} → All Spelled calls → Conversation (scriptOf calls) answers →
+    (l : OneList (freshMachine sixTable) (map commandFor calls) answers) × InTurn Alike calls (callsOf (l .trace))
+every-list-is-a-script = script-list
 
 -- And every list of demand 3, with these buffers and what it returned, is a conversation with its script.
 pub every-list-converses : {trace : List (Call × Outcome)} → All Spelled (callsOf trace) → Session (freshMachine sixTable) trace → Conversation (scriptOf (callsOf trace)) (answersOf trace)
 every-list-converses = list-converses
+
+-- So is every list from the table of every accepted scheme file, behind the command that starts it.
+pub every-list-of-files-converses : {trace : List (Call × Outcome)} (file : List ℕ) → opened file .number ≡ 0 → All Spelled (callsOf trace) → Session (opened file .machine) trace →
+    Conversation (commandForFile file ++ (10 ∷ scriptOf (callsOf trace))) (line (decimal 0 ∷ []) ++ answersOf trace)
+every-list-of-files-converses = file-converses
 
 -- Nothing is lost by the calls that no script can hold, as they are refused and leave the machine as it was: a line with a line feed has no form
 -- (1), a redeclare with a number above 4294967295 is refused with 5 or 12, an infer with a short buffer with 11.

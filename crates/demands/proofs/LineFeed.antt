@@ -10,7 +10,7 @@ use lib.ListN.{length, getD}
 use borrow.Author.Tests.{eqb-true, not-true}
 use Rattle.scheme.proofs.Every.{and-left, and-right}
 use Rattle.model.specs.Lists.{anyOf, allOf, contains, same, bytes}
-use Rattle.model.specs.Number.{numberOf}
+use Rattle.model.specs.Number.{isDigit, numberOf}
 use Rattle.model.specs.Word.{qualifierWords, operationWords, spells, placeIn, wordOf, variableOf, qualifierOf, schemeOf, operationOf}
 use Rattle.model.specs.Line.{onto, fields, field, number, literal, qualifier, floor, scheme, operation, given, choose, exactly, tag, kind, intLine, anyLine, arrowLine, paramLine, lamLine, appLine, opLine, varLine, numLine, encLine, typeLine, leafLine, termLine, lineOf}
 use Rattle.model.specs.declared.Field.{Field}
@@ -21,7 +21,7 @@ use Rattle.model.proofs.Lists.{same-bytes}
 use Rattle.model.proofs.Capitals.{capitals-contain, spells-exactly}
 use Rattle.line.proofs.Bounds.{variable-cases, qualifier-cases, floor-cases}
 use Rattle.demands.proofs.Decimal.{number-digits}
-use Rattle.demands.proofs.Without.{digits-without}
+use Rattle.demands.proofs.Without.{kind-without, fields-contain, parts-without}
 
 -- The bytes hold no line feed.
 abbrev Clean : List ℕ → Type 0
@@ -29,7 +29,7 @@ Clean s = contains 10 s ≡ false
 
 -- What is read of a field: a number, a word, a qualifier.
 number-clean : (most v : ℕ) (f : List ℕ) → numberOf most f ≡ Value v → Clean f
-number-clean most v f e = digits-without 10 f refl (number-digits most v f e)
+number-clean most v f e = kind-without 10 isDigit refl f (number-digits most v f e)
 
 same-clean : (f letter : List ℕ) → Clean letter → same f letter ≡ true → Clean f
 same-clean f letter clean h = ap (contains 10) (same-bytes f letter h) ∙ clean
@@ -52,24 +52,6 @@ variable-clean n v f e = variable-cases n f v e (λ digits k begins number code.
 operation-clean : (v : ℕ) (f : List ℕ) → operationOf f ≡ Value v → Clean f
 unfolding operationOf
 operation-clean v f e = place-clean 0 v operationWords f refl e
-
--- A line feed of the line stands in one of its fields.
-feed-onto : (b : ℕ) (fs : List (List ℕ)) → anyOf (contains 10) (onto b fs) ≡ (eqb 10 b || anyOf (contains 10) fs)
-feed-onto b [] = or-false (eqb 10 b || false)
-feed-onto b (f ∷ fs) = or-assoc (eqb 10 b) (contains 10 f) (anyOf (contains 10) fs)
-
-feed-in-field : (s : List ℕ) → anyOf (contains 10) (fields s) ≡ contains 10 s
-feed-in-field [] = refl
-feed-in-field (b ∷ bs) = by (eqb b 44) refl (feed-in-field bs)
-  where
-    by : (t : Bool) → eqb b 44 ≡ t → anyOf (contains 10) (fields bs) ≡ contains 10 bs →
-        anyOf (contains 10) (cond t ([] ∷ fields bs) (onto b (fields bs))) ≡ (eqb 10 b || contains 10 bs)
-    by true h later = rw (eqb-true b 44 h) later
-    by false h later = feed-onto b (fields bs) ∙ ap (λ (t : Bool). eqb 10 b || t) later
-
-all-clean : (fs : List (List ℕ)) → ((k : ℕ) → k < length fs → Clean (getD fs k [])) → anyOf (contains 10) fs ≡ false
-all-clean [] each = refl
-all-clean (f ∷ fs) each = rw (each 0 (omega arith)) (all-clean fs (λ k h. each (suc k) (omega arith)))
 
 -- A line has no form unless each of its steps passes.
 given-none : (f : Field) (rest : ℕ → Line) → ((v : ℕ) → f ≡ Value v → rest v ≡ NoForm) → given f rest ≡ NoForm
@@ -147,7 +129,7 @@ module _ (names : List (List ℕ)) (clean : allOf (λ name. not (contains 10 nam
   module _ (s : List ℕ) (feed : contains 10 s ≡ true) where
     -- The line feed stands in a field that is read.
     all-read : {n : ℕ} {line : Line} → length (fields s) ≡ n → CleanTo s n → line ≡ NoForm
-    all-read e clean = absurd (false≢true (sym (all-clean (fields s) (λ k h. clean-at clean k (omega arith))) ∙ feed-in-field s ∙ feed))
+    all-read e clean = absurd (false≢true (sym (parts-without 10 (fields s) (λ k h. clean-at clean k (omega arith))) ∙ fields-contain 10 refl s ∙ feed))
 
     module _ (c₀ : Clean (field s 0)) where
       param-none : paramLine names s ≡ NoForm

@@ -1,30 +1,65 @@
 -- What a script of commands comes to, and the script of a list of calls.
--- docs/DECISIONS.md, "The session"; document 01 has the calls and no text of them.
+-- docs/DECISIONS.md, "The session" and "A scheme table of the owner's"; document 01 has the calls and no text of them.
 use Prim.Native.Nat.{ℕ, _≤_, _<_}
-use mathlib.Core.Bool.{false}
-use mathlib.Core.List.{List, [], _∷_, _++_}
+use mathlib.Core.Bool.{false, cond}
+use mathlib.Core.List.{List, [], _∷_, _++_, map}
 use mathlib.Core.Path.{_≡_}
+use lib.Dec.{eqb}
 use lib.ListN.{length, drop}
 use Rattle.model.specs.Lists.{contains, bytes}
 use Rattle.model.specs.Number.{decimal}
 use Rattle.scheme.specs.Six.{sixTable}
-use Rattle.model.specs.Machine.{freshMachine}
+use Rattle.model.specs.Machine.{Machine, freshMachine}
+use Rattle.model.specs.SchemeFile.{opened}
+use Rattle.model.specs.Report.{line}
 use Rattle.model.specs.Session.{Call, add, redeclare, take-back, infer, Outcome, Session}
 use Rattle.model.specs.Text.{linesOf}
-use Rattle.model.specs.Script.{answer, Transcript}
+use Rattle.model.specs.Script.{schemes, no-command, commandOf, Makes, answer, unknown}
 
--- The entry for scripts made one list of calls, returned n, and left the output as `after`.
-pub record OneSession (script output : List ℕ) (n : ℕ) (after : List ℕ) : Type 0 where
+-- Lines that start no other table, in turn: the calls that they make, with what each returned, and all that is answered.
+pub data Transcript : List (List ℕ) → List (Call × Outcome) → List ℕ → Type 0 where
+  end : Transcript [] [] []
+  calls : {s : List ℕ} {rest : List (List ℕ)} {call : Call} {o : Outcome} {trace : List (Call × Outcome)} {answers : List ℕ} →
+      Makes (commandOf s) call → Transcript rest trace answers → Transcript (s ∷ rest) ((call, o) ∷ trace) (answer call o ++ answers)
+  refuses : {s file : List ℕ} {rest : List (List ℕ)} {trace : List (Call × Outcome)} {answers : List ℕ} → commandOf s ≡ schemes file → ¬ (opened file .number ≡ 0) →
+      Transcript rest trace answers → Transcript (s ∷ rest) trace (line (decimal (opened file .number) ∷ []) ++ answers)
+  passes : {s : List ℕ} {rest : List (List ℕ)} {trace : List (Call × Outcome)} {answers : List ℕ} →
+      commandOf s ≡ no-command → Transcript rest trace answers → Transcript (s ∷ rest) trace (unknown ++ answers)
+
+-- Lines that are one list of calls of demand 3 from a machine on, with all that is answered.
+pub record OneList (m : Machine) (lines : List (List ℕ)) (answers : List ℕ) : Type 0 where
   pub trace : List (Call × Outcome)
-  pub answers : List ℕ
-  -- the list is one of demand 3, from a fresh machine
-  pub session : Session (freshMachine sixTable) trace
-  -- its calls are those of the script's lines in turn, and the answers are those of the lines, one after the other
-  pub transcript : Transcript (linesOf script) trace answers
+  pub session : Session m trace
+  pub transcript : Transcript lines trace answers
+
+-- Lines that are a list of demand 3 up to each scheme file that is accepted, and another one from the fresh machine of that file on.
+pub data ListsInTurn : Machine → List (List ℕ) → List ℕ → Type 0 where
+  last : {m : Machine} {lines : List (List ℕ)} {answers : List ℕ} → OneList m lines answers → ListsInTurn m lines answers
+  then : {m : Machine} {file : List ℕ} (lines rest : List (List ℕ)) (s answers others : List ℕ) → OneList m lines answers → commandOf s ≡ schemes file → opened file .number ≡ 0 →
+      ListsInTurn (opened file .machine) rest others → ListsInTurn m (lines ++ (s ∷ rest)) (answers ++ (line (decimal 0 ∷ []) ++ others))
+
+-- What the entry for scripts returned, and the output after it.
+pub record HandsBack (answers output : List ℕ) (n : ℕ) (after : List ℕ) : Type 0 where
   -- with room for all answers: their length is returned, and they alone are written
   pub room : length answers ≤ length output → (n ≡ length answers) × (after ≡ answers ++ drop (length answers) output)
   -- with less: a number above the output's length is returned, and nothing is written
   pub no-room : length output < length answers → (length output < n) × (after ≡ output)
+
+-- The entry made lists of calls of demand 3, the first from a fresh machine of the six, and handed back the answers to all lines.
+pub record InSessions (script output : List ℕ) (n : ℕ) (after : List ℕ) : Type 0 where
+  pub answers : List ℕ
+  pub lists : ListsInTurn (freshMachine sixTable) (linesOf script) answers
+  pub handed : HandsBack answers output n after
+
+-- It made one list of them.
+pub record OneSession (script output : List ℕ) (n : ℕ) (after : List ℕ) : Type 0 where
+  pub answers : List ℕ
+  pub list : OneList (freshMachine sixTable) (linesOf script) answers
+  pub handed : HandsBack answers output n after
+
+-- A line does not start another table: where it has a scheme file, that is refused.
+abbrev pub StaysOn : List ℕ → Type 0
+StaysOn s = (file : List ℕ) → commandOf s ≡ schemes file → ¬ (opened file .number ≡ 0)
 
 -- The line of a script that makes a call.
 abbrev pub commandFor : Call → List ℕ
@@ -47,10 +82,14 @@ unspelledNumbers (redeclare p code) = 5 ∷ 12 ∷ []
 unspelledNumbers take-back = []
 unspelledNumbers (infer buffer) = 11 ∷ []
 
+-- The line that starts a table of a scheme file.
+abbrev pub commandForFile : List ℕ → List ℕ
+commandForFile file = bytes "schemes " ++ map (λ b. cond (eqb b 10) 32 b) file
+
 -- One command a line.
 abbrev pub scriptOf : List Call → List ℕ
 scriptOf [] = []
-scriptOf (call ∷ calls) = commandFor call ++ (10 ∷ scriptOf calls)
+scriptOf (call ∷ rest) = commandFor call ++ (10 ∷ scriptOf rest)
 
 -- All that is answered to the calls of a list, one after the other.
 abbrev pub answersOf : List (Call × Outcome) → List ℕ

@@ -14,6 +14,7 @@ pub mod Limits
 pub mod Numbers
 pub mod Length
 pub mod Scripts
+pub mod LongFiles
 pub mod LongLines
 pub mod Examples
 pub mod Files

@@ -1,4 +1,4 @@
--- The numbers that the calls which change the machine return: an add's are at most 8, a redeclare's and a take-back's at most 12.
+-- The numbers that the calls which change the machine return: an add's are at most 8, a redeclare's and a take-back's at most 12; a scheme file's at most 27.
 use Prim.Native.Nat.{ℕ, _≤_}
 use native.Mathlib.Omega.{arith}
 use mathlib.Core.Bool.{Bool, true, false, cond}
@@ -10,6 +10,8 @@ use Rattle.scheme.proofs.Every.{and-left, and-right}
 use Rattle.model.specs.Lists.{allOf}
 use Rattle.model.specs.Line.{lineOf}
 use Rattle.model.specs.Machine.{Machine, firstFailing, typeRefusal, paramRefusal, termRefusal, settled, entered, added, redeclared, takenBack}
+use Rattle.model.specs.SchemeFile.{schemeRefusal, openedWith}
+use Rattle.model.specs.Script.{restarted}
 use Rattle.model.specs.declared.Line.{Line}
 use Rattle.model.specs.declared.Line.the-variants.{TypeLine, ParamLine, TermLine, NoForm}
 
@@ -41,3 +43,7 @@ redeclared-most m p code = failing-most 12 _ refl
 pub taken-back-most : (m : Machine) → takenBack m .number ≤ 12
 unfolding takenBack settled
 taken-back-most m = failing-most 12 _ refl
+
+pub restarted-most : (m : Machine) (file : List ℕ) → restarted m file .number ≤ 27
+unfolding settled openedWith schemeRefusal
+restarted-most m file = failing-most 27 _ refl

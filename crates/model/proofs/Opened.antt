@@ -17,7 +17,7 @@ use Rattle.model.specs.SchemeFile.{isName, isBit, isBits, isSchemeLine, 
 use Rattle.model.proofs.Checks.{passed}
 
 -- What the lines' form says of the table's names and digits.
-line-bits : (s : List ℕ) → isSchemeLine s ≡ true → isBits (field s 2) ≡ true
+pub line-bits : (s : List ℕ) → isSchemeLine s ≡ true → isBits (field s 2) ≡ true
 unfolding isSchemeLine
 line-bits s h = and-right (eqb (length (fields s)) 3 && same (field s 0) (bytes "S") && isName (field s 1)) _ h
 

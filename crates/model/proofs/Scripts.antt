@@ -11,16 +11,18 @@ use Rattle.scheme.specs.Six.{sixTable}
 use Rattle.scheme.proofs.Six.{six-sound}
 use Rattle.model.specs.Lists.{bytes}
 use Rattle.model.specs.Number.{decimal}
-use Rattle.model.specs.Machine.{Machine, freshMachine}
+use Rattle.model.specs.Machine.{Machine}
+use Rattle.model.specs.SchemeFile.{opened}
 use Rattle.model.specs.Inference.{ruling}
 use Rattle.model.specs.Report.{line, report}
-use Rattle.model.specs.Session.{Call, Outcome, Infers, short, refused, accepted, Answers, infers, Session}
-use Rattle.model.specs.Session as Session
+use Rattle.model.specs.Session.{Call, Outcome, Infers, short, refused, accepted, Answers, infers}
 use Rattle.model.specs.Line.{linesOf}
-use Rattle.model.specs.Script.{Command, commandOf, Makes, shown, answer, Replies, Transcript, Conversation}
+use Rattle.model.specs.Script.{Command, commandOf, Makes, shown, answer, restarted, Replies, Dialogue, Conversation}
 use Rattle.model.specs.Script as Script
 use Rattle.model.proofs.Lawful.{sound-lawful}
 use Rattle.model.proofs.Keeps.{answers-keep}
+use Rattle.model.proofs.Checks.{settled-keeps}
+use Rattle.model.proofs.Opened.{opened-sound}
 use Rattle.model.proofs.Unique.{judged-same, judged-accepted, word-same, shapes-same, report-same}
 use Rattle.model.proofs.Answers.{answers-same}
 
@@ -52,6 +54,7 @@ Made (Script.redeclare p code) call = call ≡ Call.redeclare p code
 Made Script.take-back call = call ≡ Call.take-back
 Made Script.infer call = (buffer : List ℕ) × (6280 ≤ length buffer) × (call ≡ Call.infer buffer)
 Made Script.no-command call = ⊥
+Made (Script.schemes file) call = ⊥
 
 made : {c : Command} {call : Call} → Makes c call → Made c call
 unfolding Made
@@ -60,9 +63,27 @@ made Makes.redeclares = refl
 made Makes.takes-back = refl
 made (Makes.infers long) = (_, long, refl)
 
-not-made : {c : Command} {call : Call} → Makes c call → c ≡ Script.no-command → ⊥
+-- What is no command, and a scheme file, makes none.
+pub not-made : {c : Command} {call : Call} → Makes c call → c ≡ Script.no-command → ⊥
 unfolding Made
 not-made {call = call} makes e = subst (λ (c : Command). Made c call) e (made makes)
+
+pub not-schemes : {c : Command} {call : Call} {file : List ℕ} → Makes c call → c ≡ Script.schemes file → ⊥
+unfolding Made
+not-schemes {call = call} makes e = subst (λ (c : Command). Made c call) e (made makes)
+
+-- The file of a command.
+fileOf : Command → List ℕ
+fileOf (Script.schemes file) = file
+fileOf (Script.add s) = []
+fileOf (Script.redeclare p code) = []
+fileOf Script.take-back = []
+fileOf Script.infer = []
+fileOf Script.no-command = []
+
+same-file : {c : Command} {file file′ : List ℕ} → c ≡ Script.schemes file → c ≡ Script.schemes file′ → file ≡ file′
+unfolding fileOf
+same-file e e′ = ap fileOf (sym e ∙ e′)
 
 -- No command has two answers.
 module _ {m : Machine} (sound : Sound (m .schemes)) where
@@ -86,67 +107,34 @@ module _ {m : Machine} (sound : Sound (m .schemes)) where
       let same = infer-equal long long′ (subst (λ (c : Call). Answers m c o after) e a) (subst (λ (c : Call). Answers m c o′ after′) e′ a′) in
       (ap (λ (c : Call). answer c o) e ∙ same .0 ∙ sym (ap (λ (c : Call). answer c o′) e′), same .1)
   made-same Script.no-command e e′ a a′ = absurd e
+  made-same (Script.schemes file) e e′ a a′ = absurd e
 
   pub replies-same : {s w w′ : List ℕ} {after after′ : Machine} → Replies m s w after → Replies m s w′ after′ → (w ≡ w′) × (after ≡ after′)
   replies-same {s} (Replies.calls makes a) (Replies.calls makes′ a′) = made-same (commandOf s) (made makes) (made makes′) a a′
   replies-same (Replies.calls makes a) (Replies.passes e) = absurd (not-made makes e)
+  replies-same (Replies.calls makes a) (Replies.restarts e) = absurd (not-schemes makes e)
+  replies-same (Replies.restarts e) (Replies.calls makes a) = absurd (not-schemes makes e)
+  replies-same (Replies.restarts e) (Replies.restarts e′) =
+      let same = same-file e e′ in
+      (ap (λ (file : List ℕ). line (decimal (restarted m file .number) ∷ [])) same, ap (λ (file : List ℕ). restarted m file .machine) same)
+  replies-same (Replies.restarts e) (Replies.passes e′) = let z : _≡_ {A = ℕ} 0 1 = cc in absurd (omega arith)
+  replies-same (Replies.passes e) (Replies.restarts e′) = let z : _≡_ {A = ℕ} 0 1 = cc in absurd (omega arith)
   replies-same (Replies.passes e) (Replies.calls makes a) = absurd (not-made makes e)
   replies-same (Replies.passes e) (Replies.passes e′) = (refl, refl)
 
-replies-keep : {m after : Machine} {s w : List ℕ} → Replies m s w after → after .schemes ≡ m .schemes
-replies-keep {m} (Replies.calls makes a) = answers-keep m a
-replies-keep (Replies.passes e) = refl
+-- The schemes of the machine after a line are sound again: a restart leaves those of an accepted file.
+pub replies-sound : {m after : Machine} {s w : List ℕ} → Sound (m .schemes) → Replies m s w after → Sound (after .schemes)
+replies-sound {m} sound (Replies.calls makes a) = subst Sound (sym (answers-keep m a)) sound
+replies-sound {m} sound (Replies.restarts {file} e) =
+    settled-keeps (λ (after : Machine). Sound (after .schemes)) m (opened file .number) (opened file .machine) sound (λ z. opened-sound file)
+replies-sound sound (Replies.passes e) = sound
 
--- The lines of a script from a machine on, with all that is answered.
-pub record Held (m : Machine) (lines : List (List ℕ)) (answers : List ℕ) : Type 0 where
-  pub trace : List (Call × Outcome)
-  pub session : Session m trace
-  pub transcript : Transcript lines trace answers
+pub dialogue-same : {m : Machine} {lines : List (List ℕ)} {answers answers′ : List ℕ} → Sound (m .schemes) → Dialogue m lines answers → Dialogue m lines answers′ → answers ≡ answers′
+dialogue-same sound Dialogue.end Dialogue.end = refl
+dialogue-same sound (Dialogue.next {reply} {rest} {answers} r d) (Dialogue.next {reply = reply′} {answers = answers′} r′ d′) =
+    let same = replies-same sound r r′ in
+    let later = dialogue-same (replies-sound sound r) d (subst (λ (m : Machine). Dialogue m rest answers′) (sym (same .1)) d′) in
+    ap₂ (λ (a b : List ℕ). a ++ b) (same .0) later
 
-pub held-none : {m : Machine} → Held m [] []
-held-none = record { trace = []; session = Session.done; transcript = Transcript.end }
-
--- A line's answer goes before the answers to the lines after it.
-pub held-next : {m after : Machine} {s w : List ℕ} {rest : List (List ℕ)} {answers : List ℕ} →
-    Replies m s w after → Held after rest answers → Held m (s ∷ rest) (w ++ answers)
-held-next (Replies.calls makes a) held =
-    record { trace = _ ∷ held .trace; session = Session.next a (held .session); transcript = Transcript.calls makes (held .transcript) }
-held-next (Replies.passes e) held = record { trace = held .trace; session = held .session; transcript = Transcript.passes e (held .transcript) }
-
--- The answers begin with the first line's.
-record First (m : Machine) (s : List ℕ) (rest : List (List ℕ)) (answers : List ℕ) : Type 0 where
-  first : List ℕ
-  others : List ℕ
-  after : Machine
-  replies : Replies m s first after
-  held : Held after rest others
-  joined : answers ≡ first ++ others
-
-first-of : {m : Machine} {s : List ℕ} {rest : List (List ℕ)} {trace : List (Call × Outcome)} {answers : List ℕ} →
-    Session m trace → Transcript (s ∷ rest) trace answers → First m s rest answers
-first-of (Session.next a session) (Transcript.calls makes transcript) =
-    record { first = _; others = _; after = _; replies = Replies.calls makes a; held = record { trace = _; session = session; transcript = transcript }; joined = refl }
-first-of session (Transcript.passes e transcript) =
-    record { first = _; others = _; after = _; replies = Replies.passes e; held = record { trace = _; session = session; transcript = transcript }; joined = refl }
-
-none-answered : {trace : List (Call × Outcome)} {answers : List ℕ} → Transcript [] trace answers → answers ≡ []
-none-answered Transcript.end = refl
-
-pub held-same : {m : Machine} → Sound (m .schemes) → (lines : List (List ℕ)) {answers answers′ : List ℕ} → Held m lines answers → Held m lines answers′ → answers ≡ answers′
-held-same sound [] held held′ = none-answered (held .transcript) ∙ sym (none-answered (held′ .transcript))
-held-same {m} sound (s ∷ rest) held held′ =
-    let f = first-of (held .session) (held .transcript) in
-    let f′ = first-of (held′ .session) (held′ .transcript) in
-    let same = replies-same sound (f .replies) (f′ .replies) in
-    let later = held-same (subst Sound (sym (replies-keep (f .replies))) sound) rest (f .held) (subst (λ (m : Machine). Held m rest (f′ .others)) (sym (same .1)) (f′ .held)) in
-    f .joined ∙ ap₂ _++_ (same .0) later ∙ sym (f′ .joined)
-
-pub held-conversation : {script answers : List ℕ} → Held (freshMachine sixTable) (linesOf script) answers → Conversation script answers
-held-conversation held = record { trace = held .trace; session = held .session; transcript = held .transcript }
-
--- The same script has the same answers.
 pub conversation-same : {script answers answers′ : List ℕ} → Conversation script answers → Conversation script answers′ → answers ≡ answers′
-conversation-same {script} c c′ =
-    held-same six-sound (linesOf script)
-    (record { trace = c .trace; session = c .session; transcript = c .transcript })
-    (record { trace = c′ .trace; session = c′ .session; transcript = c′ .transcript })
+conversation-same c c′ = dialogue-same six-sound (c .dialogue) (c′ .dialogue)

@@ -1,17 +1,18 @@
 -- Scripts: one command a line, the calls that the commands make, and what is answered to each line.
--- Document 01 has the calls and no text of them; docs/DECISIONS.md, "The session", fixes this one.
+-- Document 01 has the calls and no text of them; docs/DECISIONS.md, "The session" and "A scheme table of the owner's", fix this one.
 use Prim.Native.Nat.{ℕ, _+_, _≤_, _<_, min}
 use mathlib.Core.Bool.{Bool, cond}
-use mathlib.Core.List.{List, [], _∷_, _++_}
+use mathlib.Core.List.{List, [], _∷_, _++_, map}
 use mathlib.Core.Path.{_≡_}
 use lib.Dec.{eqb}
 use lib.ListN.{length, take, drop}
 use Rattle.scheme.specs.Six.{sixTable}
 use Rattle.model.specs.Lists.{same, lengthBefore, bytes}
 use Rattle.model.specs.Number.{numberOf, decimal}
-use Rattle.model.specs.Machine.{Machine, freshMachine}
+use Rattle.model.specs.Machine.{Machine, Change, freshMachine, settled}
+use Rattle.model.specs.SchemeFile.{opened}
 use Rattle.model.specs.Report.{line}
-use Rattle.model.specs.Session.{Call, Outcome, Answers, Session}
+use Rattle.model.specs.Session.{Call, Outcome, Answers}
 use Rattle.model.specs.Line.{linesOf}
 use Rattle.model.specs.declared.Field.{Field}
 use Rattle.model.specs.declared.Field.the-variants.{Value, NoValue}
@@ -21,6 +22,7 @@ pub data Command : Type 0 where
   add : List ℕ → Command
   redeclare : ℕ → ℕ → Command
   take-back infer no-command : Command
+  schemes : List ℕ → Command
 
 -- The bytes begin with the word.
 abbrev pub begins : List ℕ → List ℕ → Bool
@@ -42,13 +44,19 @@ redeclareOf (Value p) (Value code) = redeclare p code
 redeclareOf (Value p) NoValue = no-command
 redeclareOf NoValue code = no-command
 
--- `add LINE` ("one blank, then the line's bytes, any bytes"), `redeclare P CODE`, `take-back`, `infer`; every other line is no command.
+-- A scheme file on one line: "each blank stands for a line feed".
+abbrev pub fileIn : List ℕ → List ℕ
+fileIn s = map (λ b. cond (eqb b 32) 10 b) s
+
+-- `add LINE` ("one blank, then the line's bytes, any bytes"), `redeclare P CODE`, `take-back`, `infer`, `schemes LINES` ("one blank, then a
+-- scheme file's lines, parted by blanks"); every other line is no command.
 unfoldable pub commandOf : List ℕ → Command
 commandOf s =
     cond (begins (bytes "add ") s) (add (drop 4 s))
     (cond (begins (bytes "redeclare ") s) (redeclareOf (argument (beforeBlank (drop 10 s))) (argument (afterBlank (drop 10 s))))
     (cond (same s (bytes "take-back")) take-back
-    (cond (same s (bytes "infer")) infer no-command)))
+    (cond (same s (bytes "infer")) infer
+    (cond (begins (bytes "schemes ") s) (schemes (fileIn (drop 8 s))) no-command))))
 
 -- The call that a command makes. An infer is lent a buffer that is long enough, whatever stands in it.
 pub data Makes : Command → Call → Type 0 where
@@ -71,24 +79,25 @@ answer (Call.infer buffer) o = shown o
 abbrev pub unknown : List ℕ
 unknown = line (bytes "?" ∷ [])
 
+-- "starts a fresh table of the file's schemes .. a refused file changes nothing"
+abbrev pub restarted : Machine → List ℕ → Change
+restarted m file = settled m (opened file .number) (opened file .machine)
+
 -- One line on a machine: what is answered, and the machine after it.
 pub data Replies (m : Machine) (s : List ℕ) : List ℕ → Machine → Type 0 where
   calls : {call : Call} {o : Outcome} {after : Machine} → Makes (commandOf s) call → Answers m call o after → Replies m s (answer call o) after
+  restarts : {file : List ℕ} → commandOf s ≡ schemes file → Replies m s (line (decimal (restarted m file .number) ∷ [])) (restarted m file .machine)
   passes : commandOf s ≡ no-command → Replies m s unknown m
 
--- The lines of a script in turn: the calls that they make, with what each returned, and all that is answered.
-pub data Transcript : List (List ℕ) → List (Call × Outcome) → List ℕ → Type 0 where
-  end : Transcript [] [] []
-  calls : {s : List ℕ} {rest : List (List ℕ)} {call : Call} {o : Outcome} {trace : List (Call × Outcome)} {answers : List ℕ} →
-      Makes (commandOf s) call → Transcript rest trace answers → Transcript (s ∷ rest) ((call, o) ∷ trace) (answer call o ++ answers)
-  passes : {s : List ℕ} {rest : List (List ℕ)} {trace : List (Call × Outcome)} {answers : List ℕ} →
-      commandOf s ≡ no-command → Transcript rest trace answers → Transcript (s ∷ rest) trace (unknown ++ answers)
+-- The lines of a script in turn, each on the machine that the one before it left, and all that is answered.
+pub data Dialogue : Machine → List (List ℕ) → List ℕ → Type 0 where
+  end : {m : Machine} → Dialogue m [] []
+  next : {m after : Machine} {s reply : List ℕ} {rest : List (List ℕ)} {answers : List ℕ} →
+      Replies m s reply after → Dialogue after rest answers → Dialogue m (s ∷ rest) (reply ++ answers)
 
--- A whole script: its calls and what they returned are a list of demand 3, from a fresh machine, and the answers are those of its lines.
+-- A whole script starts with a fresh machine of the six.
 pub record Conversation (script answers : List ℕ) : Type 0 where
-  pub trace : List (Call × Outcome)
-  pub session : Session (freshMachine sixTable) trace
-  pub transcript : Transcript (linesOf script) trace answers
+  pub dialogue : Dialogue (freshMachine sixTable) (linesOf script) answers
 
 -- The largest number that the entry for scripts can return.
 abbrev pub largest : ℕ

@@ -10,6 +10,7 @@ use Rattle.model.specs.Lists.{bytes}
 use Rattle.model.specs.Number.{decimal}
 pub use Rattle.model.specs.Line.{linesOf}
 use Rattle.model.specs.Machine.{Machine, freshMachine, added}
+use Rattle.model.specs.SchemeFile.{opened}
 use Rattle.model.specs.Inference.{ruling, Slot, Shape, Judged}
 use Rattle.model.specs.Report.{line, report}
 use Rattle.model.specs.Session.{Outcome, Infers}
@@ -50,3 +51,12 @@ pub data Returns (T : SchemeTable) (text buffer : List ℕ) : ℕ → List ℕ �
   -- "100,000 + the report's length"
   reported : {m : Machine} {o : Outcome} → 6280 ≤ length buffer → load T text ≡ loaded m → Infers m buffer o → o .number ≡ 0 →
       Returns T text buffer (100000 + o .size) (o .buffer)
+
+-- What the C entry that takes an owner's scheme file returns, and the buffer after it. Document 02, d).
+pub data ReturnsUnder (file text buffer : List ℕ) : ℕ → List ℕ → Type 0 where
+  -- the short buffer first, as there
+  short : length buffer < 6280 → ReturnsUnder file text buffer 11000 buffer
+  -- then 25 to 27, "with row 0"
+  refused-file : 6280 ≤ length buffer → ¬ (opened file .number ≡ 0) → ReturnsUnder file text buffer (opened file .number * 1000) buffer
+  -- then as that entry, under the file's schemes
+  accepted-file : {n : ℕ} {after : List ℕ} → opened file .number ≡ 0 → Returns (opened file .machine .schemes) text buffer n after → ReturnsUnder file text buffer n after

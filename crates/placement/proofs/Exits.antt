@@ -8,11 +8,14 @@ use lib.ListN.{length, take}
 use lib.Seq.{take-all, take-append-seam}
 use borrow.Author.Tests.{eq-eqb, ne-eqb}
 use Rattle.scheme.specs.Schemes.{SchemeTable, Sound}
+use Rattle.schemes.specs.Schemes.{tableIn}
+use Rattle.schemes.specs.Reads.{Reads}
+use Rattle.schemes.specs.declared.Opened.{Opened}
 use Rattle.model.specs.Lists.{bytes}
 use Rattle.model.specs.Report.{report}
 use Rattle.model.specs.Session.{Outcome, Infers}
 use Rattle.model.specs.Script.{shown}
-use Rattle.model.specs.Text.{Prints, Returns}
+use Rattle.model.specs.Text.{Prints, Returns, ReturnsUnder}
 use Rattle.model.proofs.Limits.{well-formed-within}
 use Rattle.table.specs.Lists.{lists}
 use Rattle.text.specs.Loads.{Loads}
@@ -48,6 +51,16 @@ module _ {T : SchemeTable} (sound : Sound T) (text part buffer : List ℕ) (is :
 
       pub report-returned : o .number ≡ 0 → Returns T text buffer (100000 + o .size) middle
       report-returned accepted = decides (Returns.reported long (loads .all all) infers accepted)
+
+-- The entry under a scheme file.
+module _ (file text buffer : List ℕ) (r : Opened) (reads : Reads file r) where
+  pub file-refused : ¬ (r .number ≡ 0) → 6280 ≤ length buffer → ReturnsUnder file text buffer (r .number * 1000) buffer
+  file-refused stop long =
+      subst (λ (k : ℕ). ReturnsUnder file text buffer (k * 1000) buffer) (sym (reads .refusal)) (ReturnsUnder.refused-file long (λ z. stop (reads .refusal ∙ z)))
+
+  pub file-accepted : {n : ℕ} {after : List ℕ} → r .number ≡ 0 → Returns (tableIn (r .schemes)) text buffer n after → ReturnsUnder file text buffer n after
+  file-accepted {n} {after} all returns =
+      ReturnsUnder.accepted-file (sym (reads .refusal) ∙ all) (subst (λ (T : SchemeTable). Returns T text buffer n after) (reads .table) returns)
 
 -- What is printed.
 module _ {T : SchemeTable} (text buffer : List ℕ) (r : Loaded) (loads : Loads T text r) (long : 6280 ≤ length buffer) where

@@ -5,12 +5,15 @@ ghost use lib.ListN.{length, take};
 ghost use Rattle.scheme.specs.Six.{sixTable};
 ghost use Rattle.schemes.specs.Schemes.{tableIn, Kept};
 ghost use Rattle.model.specs.Script.{Responds};
-ghost use Rattle.model.specs.Text.{Prints, Returns};
+ghost use Rattle.model.specs.Text.{Prints, Returns, ReturnsUnder};
 use schemes::Schemes;
 use script::Layer;
 
 // What stands in a text after this many bytes does not matter: 385 lines of 64 bytes and a line feed (`load-front`).
 pub const TEXT: usize = 25025;
+
+// What both entries return for a buffer that is shorter than the longest report.
+const SHORT: u32 = 11000;
 
 // The length of the longest text that `place` prints.
 pub const PRINTED: usize = inference::REPORT;
@@ -24,13 +27,28 @@ pub extern "C" fn placement_report(text: &[u8], buffer: &mut [u8]) -> u32
     report(Schemes::six(), text, buffer)
 }
 
-// The same under any scheme table.
+// The entry for an owner's schemes: a scheme file, then the text. A short buffer is told first, then what refuses the file; else it is as above.
+#[no_mangle]
+pub extern "C" fn placement_report_under(file: &[u8], text: &[u8], buffer: &mut [u8]) -> u32
+    ensures { λ r. ⌜ ReturnsUnder (now (file .entry)) (now (text .entry)) (now (buffer .entry)) r (now (buffer .exit)) ⌝ }
+{
+    if buffer.len() < inference::REPORT {
+        return SHORT;
+    }
+    let opened = Schemes::open(file);
+    if opened.number != 0 {
+        return opened.number as u32 * 1000;
+    }
+    report(opened.schemes, text, buffer)
+}
+
+// What both return, under any scheme table.
 fn report(schemes: Schemes, text: &[u8], buffer: &mut [u8]) -> u32
     requires { ⌜ Kept schemes ⌝ }
     ensures { λ r. ⌜ Returns (tableIn schemes) (now (text .entry)) (now (buffer .entry)) r (now (buffer .exit)) ⌝ }
 {
     if buffer.len() < inference::REPORT {
-        return 11000;
+        return SHORT;
     }
     let loaded = text::load(schemes, front(text));
     if loaded.number != 0 {

@@ -12,8 +12,8 @@ use Rattle.scheme.specs.Six.{sixTable}
 use Rattle.schemes.specs.Schemes.{Kept}
 use Rattle.model.specs.Machine.{Machine, freshMachine}
 use Rattle.model.specs.Text.{linesOf}
-use Rattle.model.specs.Script.{largest, Responds}
-use Rattle.model.proofs.Scripts.{Held, held-none, held-next, held-conversation, conversation-same}
+use Rattle.model.specs.Script.{Dialogue, largest, Responds}
+use Rattle.model.proofs.Scripts.{conversation-same}
 use Rattle.table.specs.Lists.{lists}
 use Rattle.table.specs.declared.Table.{Table}
 use Rattle.table.specs.Ready.{Ready}
@@ -65,7 +65,7 @@ answered-at m s buffer before after at sum r replied is put =
 -- Before the line that starts at `from`.
 pub record Left (script before now : List ℕ) (table : Table) (from at : ℕ) : Type 0 where
   pub answers : List ℕ
-  pub rest : (others : List ℕ) → Held (lists table) (linesOf (drop from script)) others → Held (freshMachine sixTable) (linesOf script) (answers ++ others)
+  pub rest : (others : List ℕ) → Dialogue (lists table) (linesOf (drop from script)) others → Dialogue (freshMachine sixTable) (linesOf script) (answers ++ others)
   pub ready : Ready table
   pub counted : at ≡ min (length answers) largest
   pub written : length answers ≤ length before → now ≡ sets before 0 answers
@@ -74,7 +74,7 @@ pub all-left : (script before : List ℕ) (table : Table) → (lists table ≡ f
 all-left script before table (fresh, kept) =
     record {
       answers = [];
-      rest = λ others held. subst (λ (m : Machine). Held m (linesOf script) others) fresh held;
+      rest = λ others left. subst (λ (m : Machine). Dialogue m (linesOf script) others) fresh left;
       ready = fresh-ready sixTable fresh kept;
       counted = omega arith;
       written = λ h. refl;
@@ -87,10 +87,10 @@ module _ (script before now after : List ℕ) (table : Table) (from to at : ℕ)
       let both : length (left .answers ++ answered .answer) ≡ length (left .answers) + length (answered .answer) = length-append (left .answers) (answered .answer) in
       record {
         answers = left .answers ++ answered .answer;
-        rest = λ others held.
+        rest = λ others later.
             rw append-assoc
             (left .rest (answered .answer ++ others)
-            (subst (λ (lines : List (List ℕ)). Held (lists table) lines (answered .answer ++ others)) (sym (line-part script from to h is)) (held-next (answered .replies) held)));
+            (subst (λ (lines : List (List ℕ)). Dialogue (lists table) lines (answered .answer ++ others)) (sym (line-part script from to h is)) (Dialogue.next (answered .replies) later)));
         ready = answered .ready;
         counted = omega (arith, answered .counted, left .counted, both);
         written = λ fits.
@@ -104,7 +104,7 @@ pub none-left : (script before now : List ℕ) (table : Table) (from at : ℕ) �
 none-left script before now table from at left h =
     record {
       answers = left .answers;
-      conversation = held-conversation (rw append-nil at (left .rest [] (rw (drop-of-length-le script h) held-none)));
+      conversation = record { dialogue = rw append-nil at (left .rest [] (rw (drop-of-length-le script h) Dialogue.end)) };
       counted = left .counted;
       written = left .written;
     }

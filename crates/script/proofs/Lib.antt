@@ -1,3 +1,4 @@
+pub mod Restarting
 pub mod Replying
 pub mod Conversing
 pub mod Keeping

@@ -9,9 +9,9 @@ use Rattle.model.specs.Machine.{Machine, Change, added, redeclared, takenBack}
 use Rattle.model.specs.Report.{line}
 use Rattle.model.specs.Session.{Call, Outcome, returning, Answers}
 use Rattle.model.specs.Session as Session
-use Rattle.model.specs.Script.{commandOf, Makes, answer, unknown, Replies}
+use Rattle.model.specs.Script.{fileIn, commandOf, Makes, answer, restarted, unknown, Replies}
 use Rattle.model.specs.Script as Script
-use Rattle.model.proofs.Numbers.{added-most, redeclared-most, taken-back-most}
+use Rattle.model.proofs.Numbers.{added-most, redeclared-most, taken-back-most, restarted-most}
 use Rattle.table.specs.Lists.{lists, change}
 use Rattle.table.specs.Called.{Called}
 use Rattle.table.specs.Called as Called
@@ -24,8 +24,8 @@ use Rattle.report.proofs.Fronts.{front-written, number-room}
 use Rattle.inference.specs.Printed.{Printed}
 use Rattle.command.specs.Said.{said}
 use Rattle.command.specs.declared.Command.{Command}
-use Rattle.command.specs.declared.Command.the-variants.{Add, Redeclare, TakeBack, Infer, Nothing}
-use Rattle.command.proofs.Reading.{rest-is, add-long}
+use Rattle.command.specs.declared.Command.the-variants.{Add, Redeclare, TakeBack, Infer, Schemes, Nothing}
+use Rattle.command.proofs.Reading.{rest-is, add-long, schemes-long}
 use Rattle.script.specs.Turns.{Replied}
 use Rattle.script.specs.declared.Turn.{Turn}
 
@@ -45,6 +45,9 @@ replied {m} {s} {buffer} table size ready makes a front =
 
 pub add-starts : (s : List ℕ) (c : Command) → said c s ≡ commandOf s → c ≡ Add → 4 ≤ length s
 add-starts s c reads e = add-long s (ap (λ (x : Command). said x s) (sym e) ∙ reads)
+
+pub file-starts : (s : List ℕ) (c : Command) → said c s ≡ commandOf s → c ≡ Schemes → 8 ≤ length s
+file-starts s c reads e = schemes-long s (ap (λ (x : Command). said x s) (sym e) ∙ reads)
 
 module _ (t : Table) (s buffer : List ℕ) (ready : Ready t) (c : Command) (reads : said c s ≡ commandOf s) where
   -- The line that was read is a command that makes the call.
@@ -70,6 +73,18 @@ module _ (t : Table) (s buffer : List ℕ) (ready : Ready t) (c : Command) (read
     unfolding said
     take-back-replied e is = call-replied (makes-as TakeBack e Makes.takes-back) (Called.takes-back (is .0) (is .1)) refl
 
+    pub restart-replied : c ≡ Schemes → (change r ≡ restarted (lists t) (fileIn (take (length s - 8) (drop 8 s)))) × Ready (r .table) → Replied (lists t) s buffer (turn (r .table) size)
+    unfolding said
+    restart-replied e is =
+        let whole : change r ≡ restarted (lists t) (fileIn (drop 8 s)) = is .0 ∙ ap (λ (rest : List ℕ). restarted (lists t) (fileIn rest)) (rest-is 8 s) in
+        let file = fileIn (drop 8 s) in
+        let replies : Replies (lists t) s (line (decimal (restarted (lists t) file .number) ∷ [])) (restarted (lists t) file .machine) = Replies.restarts (sym reads ∙ ap (λ (x : Command). said x s) e) in
+        record {
+          replies = subst (λ (text : List ℕ). Replies (lists t) s text (lists (r .table))) (sym (front .bytes)) (subst (λ (after : Change). Replies (lists t) s (line (decimal (after .number) ∷ [])) (after .machine)) (sym whole) replies);
+          ready = is .1;
+          fits = front .fits;
+        }
+
   pub infer-replied : (before : List ℕ) (size : ℕ) → 6280 ≤ length before → c ≡ Infer → Printed (lists t) before buffer size → Replied (lists t) s buffer (turn t size)
   unfolding said
   infer-replied before size long e printed = replied t size ready (makes-as Infer e (Makes.infers long)) (Session.infers (printed .infers)) (printed .front)
@@ -83,21 +98,24 @@ module _ (t : Table) (s buffer : List ℕ) (ready : Ready t) (c : Command) (read
         fits = front .fits;
       }
 
--- No call returns a number above 12.
+-- No number is above 27.
 module _ (t : Table) (r : Answered) where
-  pub add-small : (s : List ℕ) → change r ≡ added (lists t) s → r .number ≤ 12
-  add-small s is = subst (λ (c : Change). c .number ≤ 12) (sym is) (omega (arith, added-most (lists t) s))
+  pub add-small : (s : List ℕ) → change r ≡ added (lists t) s → r .number ≤ 27
+  add-small s is = subst (λ (c : Change). c .number ≤ 27) (sym is) (omega (arith, added-most (lists t) s))
 
-  pub redeclare-small : (p code : ℕ) → change r ≡ redeclared (lists t) p code → r .number ≤ 12
-  redeclare-small p code is = subst (λ (c : Change). c .number ≤ 12) (sym is) (redeclared-most (lists t) p code)
+  pub redeclare-small : (p code : ℕ) → change r ≡ redeclared (lists t) p code → r .number ≤ 27
+  redeclare-small p code is = subst (λ (c : Change). c .number ≤ 27) (sym is) (omega (arith, redeclared-most (lists t) p code))
 
-  pub take-back-small : change r ≡ takenBack (lists t) → r .number ≤ 12
-  take-back-small is = subst (λ (c : Change). c .number ≤ 12) (sym is) (taken-back-most (lists t))
+  pub take-back-small : change r ≡ takenBack (lists t) → r .number ≤ 27
+  take-back-small is = subst (λ (c : Change). c .number ≤ 27) (sym is) (omega (arith, taken-back-most (lists t)))
 
-pub small-room : (buffer : List ℕ) (n : ℕ) → n ≤ 12 → 6280 ≤ length buffer → Room buffer 0 (decimal n ++ (10 ∷ []))
+  pub restart-small : (file : List ℕ) → change r ≡ restarted (lists t) file → r .number ≤ 27
+  restart-small file is = subst (λ (c : Change). c .number ≤ 27) (sym is) (restarted-most (lists t) file)
+
+pub small-room : (buffer : List ℕ) (n : ℕ) → n ≤ 27 → 6280 ≤ length buffer → Room buffer 0 (decimal n ++ (10 ∷ []))
 small-room buffer n h long = number-room buffer n (omega arith) long
 
-pub number-front : (buffer after : List ℕ) (n size : ℕ) → n ≤ 12 → 6280 ≤ length buffer → Wrote buffer 0 (decimal n ++ (10 ∷ [])) after size → Front (line (decimal n ∷ [])) after size
+pub number-front : (buffer after : List ℕ) (n size : ℕ) → n ≤ 27 → 6280 ≤ length buffer → Wrote buffer 0 (decimal n ++ (10 ∷ [])) after size → Front (line (decimal n ∷ [])) after size
 unfolding line
 number-front buffer after n size h long wrote = front-written (decimal n ++ (10 ∷ [])) buffer after size (small-room buffer n h long) wrote
 

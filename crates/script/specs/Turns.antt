@@ -7,7 +7,7 @@ use lib.Dec.{leb}
 use lib.ListN.{length, take}
 use lib.Seq.{sets}
 use Rattle.model.specs.Machine.{Machine}
-use Rattle.model.specs.Script.{Replies, Conversation, largest}
+use Rattle.model.specs.Script.{fileIn, Replies, Conversation, largest}
 use Rattle.table.specs.Lists.{lists}
 use Rattle.table.specs.Ready.{Ready}
 use Rattle.script.specs.declared.Turn.{Turn}
@@ -36,6 +36,11 @@ pub record Tried (script before after : List ℕ) (r : ℕ) : Type 0 where
   pub conversation : Conversation script answers
   pub counted : r ≡ min (length answers) largest
   pub written : length answers ≤ length before → after ≡ sets before 0 answers
+
+-- A scheme file that stands on one line was copied, as far as there was room.
+pub record Parted (lines before after : List ℕ) (r : ℕ) : Type 0 where
+  pub bytes : take r after ≡ take (length before) (fileIn lines)
+  pub fits : r ≤ length after
 
 -- A part of a line was put behind the bytes that are kept of it, as far as there was room.
 pub record Kept (before : List ℕ) (count : ℕ) (part after : List ℕ) (r : ℕ) : Type 0 where

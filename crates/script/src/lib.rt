@@ -18,8 +18,11 @@ mod calls;
 // The length of the longest answer to a line.
 pub const ANSWER: usize = inference::REPORT;
 
-// As much of a line as decides its answer (`reply-front`).
-pub const LINE: usize = 69;
+// As much of a line as decides its answer (`reply-front`): the word of a command, and as much of a scheme file as decides.
+pub const LINE: usize = 121;
+
+// As much of a scheme file as decides whether it is refused (`opened-front`).
+const FILE: usize = 113;
 
 // How the calls that change the table are made.
 pub enum Layer {
@@ -61,6 +64,12 @@ pub fn answer(layer: Layer, table: Table, line: &[u8], buffer: &mut [u8]) -> Tur
             let size = inference::print(table, buffer);
             Turn { table, size }
         }
+        Command::Schemes => {
+            let restarted = calls::restart(table, &line[8..]);
+            let after = restarted.table;
+            let size = write_number(restarted.number, buffer);
+            Turn { table: after, size }
+        }
         Command::Nothing => {
             let size = write_unknown(buffer);
             Turn { table, size }
@@ -68,9 +77,9 @@ pub fn answer(layer: Layer, table: Table, line: &[u8], buffer: &mut [u8]) -> Tur
     }
 }
 
-// Writes the line of a call's number, which is never above 12.
+// Writes the line of a number, which is never above 27.
 fn write_number(number: u16, buffer: &mut [u8]) -> usize
-    requires { ⌜ (number ≤ 12) × (6280 ≤ length (now buffer)) ⌝ }
+    requires { ⌜ (number ≤ 27) × (6280 ≤ length (now buffer)) ⌝ }
     ensures { λ r. ⌜ Front (line (decimal number ∷ [])) (now (buffer .exit)) r ⌝ }
 {
     report::write_number(buffer, 0, number as usize, b'\n')

@@ -2,3 +2,4 @@ pub mod Accepted
 pub mod Turns
 pub mod Front
 pub mod Same
+pub mod Under

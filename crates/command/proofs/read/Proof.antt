@@ -1,12 +1,13 @@
 -- The commands are tried in turn.
 use Prim.Native.Nat.{_≤_}
 use native.Mathlib.Omega.{arith}
+use mathlib.Core.Path.{refl}
 use lib.ListN.{length}
 use Rattle.model.specs.Lists.{bytes}
 use Rattle.model.specs.Script.{commandOf}
 use Rattle.command.specs.Said.{said}
 use borrow.Author.Needs.{needs}
-use Rattle.command.proofs.Reading.{begins-long, readings}
+use Rattle.command.proofs.Reading.{begins-long, test-passed, test-failed, readings}
 use Rattle.command.proofs.read.Statement.{statement}
 use Rattle.command.proofs.read.Tie as tie
 
@@ -62,9 +63,19 @@ returns-4 : tie.Need-returns-4
 unfolding said commandOf
 returns-4 c = search (readings, needs) depth 12
 
+slice-aggregate-begins-3 : tie.Need-slice-aggregate-begins-3
+slice-aggregate-begins-3 c = search needs
+
+begins-requires-3 : tie.Need-begins-requires-3
+begins-requires-3 c κs = search needs
+
 returns-5 : tie.Need-returns-5
 unfolding said commandOf
-returns-5 c = search (readings, needs) depth 12
+returns-5 c = test-failed _ _ _ _ _ (c .before .before .before .before .before .before .before .before .before .before .before .before .before .begins .ensures) (c .before .before .before .before .before .before .before .before .before .before .before .before .if1 .left) (test-failed _ _ _ _ _ (c .before .before .before .before .before .before .before .before .before .before .begins2 .ensures) (c .before .before .before .before .before .before .before .before .before .if2 .left) (test-failed _ _ _ _ _ (c .before .before .before .before .before .before .before .same .ensures) (c .before .before .before .before .before .before .if3 .left) (test-failed _ _ _ _ _ (c .before .before .before .before .same2 .ensures) (c .before .before .before .if4 .left) (test-passed _ _ _ _ _ (c .before .begins3 .ensures) (c .if5 .taken) refl))))
+
+returns-6 : tie.Need-returns-6
+unfolding said commandOf
+returns-6 c = test-failed _ _ _ _ _ (c .before .before .before .before .before .before .before .before .before .before .before .before .before .begins .ensures) (c .before .before .before .before .before .before .before .before .before .before .before .before .if1 .left) (test-failed _ _ _ _ _ (c .before .before .before .before .before .before .before .before .before .before .begins2 .ensures) (c .before .before .before .before .before .before .before .before .before .if2 .left) (test-failed _ _ _ _ _ (c .before .before .before .before .before .before .before .same .ensures) (c .before .before .before .before .before .before .if3 .left) (test-failed _ _ _ _ _ (c .before .before .before .before .same2 .ensures) (c .before .before .before .if4 .left) (test-failed _ _ _ _ _ (c .before .begins3 .ensures) (c .if5 .left) refl))))
 
 pub read-spec : {M : Type 1} → statement M
 read-spec =
@@ -86,4 +97,7 @@ read-spec =
     slice-aggregate-same-2
     same-requires-2
     returns-4
-    returns-5)
+    slice-aggregate-begins-3
+    begins-requires-3
+    returns-5
+    returns-6)

@@ -1,6 +1,6 @@
 -- Each command's answer stands at the front of the buffer.
 use native.Mathlib.Omega.{arith}
-use Rattle.script.proofs.Replying.{add-starts, add-small, redeclare-small, take-back-small, add-replied, redeclare-replied, take-back-replied, infer-replied, unknown-replied}
+use Rattle.script.proofs.Replying.{add-starts, file-starts, add-small, redeclare-small, take-back-small, restart-small, add-replied, redeclare-replied, take-back-replied, restart-replied, infer-replied, unknown-replied}
 use borrow.Author.Needs.{needs}
 use Rattle.script.proofs.answer.Statement.{statement}
 use Rattle.script.proofs.answer.Tie as tie
@@ -59,6 +59,24 @@ print-requires c κs = search needs
 enum-told-4 : tie.Need-enum-told-4
 enum-told-4 c = search needs
 
+sub-restart : tie.Need-sub-restart
+sub-restart c = let h = file-starts (c .before .before .before .before .before .args .line .now) _ (c .before .before .read .ensures) (c .enum-told4 .given .1) in omega arith
+
+part-restart-start : tie.Need-part-restart-start
+part-restart-start c = let h = file-starts (c .before .before .before .before .before .args .line .now) _ (c .before .before .read .ensures) (c .enum-told4 .given .1) in omega arith
+
+part-restart-end : tie.Need-part-restart-end
+part-restart-end c = search needs
+
+restart-requires : tie.Need-restart-requires
+restart-requires c κs = search needs
+
+write-number-requires-4 : tie.Need-write-number-requires-4
+write-number-requires-4 c κs = (search (restart-small, needs), search needs)
+
+enum-told-5 : tie.Need-enum-told-5
+enum-told-5 c = search needs
+
 write-unknown-requires : tie.Need-write-unknown-requires
 write-unknown-requires c κs = search needs
 
@@ -90,7 +108,13 @@ same-length-5 : tie.Need-same-length-5
 same-length-5 c = search needs
 
 returns-5 : tie.Need-returns-5
-returns-5 c = search (unknown-replied, needs)
+returns-5 c = search (restart-replied, needs)
+
+same-length-6 : tie.Need-same-length-6
+same-length-6 c = search needs
+
+returns-6 : tie.Need-returns-6
+returns-6 c = search (unknown-replied, needs)
 
 pub answer-spec : {M : Type 1} → statement M
 answer-spec =
@@ -114,6 +138,12 @@ answer-spec =
     enum-told-3
     print-requires
     enum-told-4
+    sub-restart
+    part-restart-start
+    part-restart-end
+    restart-requires
+    write-number-requires-4
+    enum-told-5
     write-unknown-requires
     same-length
     returns
@@ -124,4 +154,6 @@ answer-spec =
     same-length-4
     returns-4
     same-length-5
-    returns-5)
+    returns-5
+    same-length-6
+    returns-6)
