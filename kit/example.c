@@ -1,4 +1,7 @@
-/* Reads a table from a file and prints its report, or says in words why it is refused and what to do. */
+/*
+ * Reads a table from a file and prints its report, or says in words why it is refused and what to do. A second file, where one is named, is the
+ * owner's scheme file, and the report is the one under its schemes.
+ */
 #include "placement.h"
 
 #include <stdint.h>
@@ -10,7 +13,7 @@ enum status { ACCEPTED = 0, REFUSED = 1, NOT_RUN = 2 };
 static const char *words(unsigned number) {
     switch (number) {
     case PLACEMENT_NO_FORM:
-        return "the line is longer than 64 bytes or has none of the forms that docs/NUMBERS.md lists. T, P and E are capitals, and the g of a variable is small.";
+        return "the line is longer than 64 bytes or has none of the forms that docs/NUMBERS.md lists. T, P and E are capitals, and the g of a variable is small. Scheme words are those of the scheme file, or of the six where none is given.";
     case PLACEMENT_NOT_NEXT:
         return "the line's own number is not the next in its list. Number T, P and E lines from 0, each without a gap.";
     case PLACEMENT_LIST_FULL:
@@ -37,6 +40,12 @@ static const char *words(unsigned number) {
         return "a declared scheme does not support an operation on it. Declare a scheme that supports it, or a variable.";
     case PLACEMENT_BELOW_FLOOR:
         return "the greatest scheme for this input is not at or above its floor. Lower the floor, or change what the program does with the input.";
+    case PLACEMENT_SCHEME_FILE:
+        return "the scheme file does not have 1 to 8 lines S,NAME,BITS with names of 1 to 5 capitals other than PLAIN, each with five digits 0 or 1, or two lines have the same name or the same digits.";
+    case PLACEMENT_NO_MEET:
+        return "the scheme file has no greatest scheme, or two schemes in it have no greatest lower bound. Add a scheme that supports exactly what all schemes have in common, or one that supports exactly what those two support together.";
+    case PLACEMENT_NO_HIGHEST:
+        return "an operation has supporters in the scheme file, but no highest one. Add a scheme that supports exactly what all its supporters have in common.";
     default:
         return "this program does not know the number. See docs/NUMBERS.md.";
     }
@@ -58,14 +67,14 @@ static void explain(uint32_t result) {
 }
 
 /* Reads as much of a file as can matter; where it cannot be read, says why and returns 0. */
-static int read_text(const char *path, uint8_t text[PLACEMENT_TEXT_LENGTH], size_t *length) {
+static int read_front(const char *path, uint8_t *front, size_t room, size_t *length) {
     FILE *file = fopen(path, "rb");
 
     if (file == NULL) {
         perror(path);
         return 0;
     }
-    *length = fread(text, 1, PLACEMENT_TEXT_LENGTH, file);
+    *length = fread(front, 1, room, file);
     int good = !ferror(file);
     if (!good) {
         perror(path);
@@ -76,17 +85,26 @@ static int read_text(const char *path, uint8_t text[PLACEMENT_TEXT_LENGTH], size
 
 int main(int count, char **arguments) {
     static uint8_t text[PLACEMENT_TEXT_LENGTH];
+    static uint8_t schemes[PLACEMENT_SCHEMES_LENGTH];
     static uint8_t report[PLACEMENT_REPORT_LENGTH];
     size_t text_length = 0;
+    size_t schemes_length = 0;
+    uint32_t result;
 
-    if (count != 2) {
-        fprintf(stderr, "usage: example TABLE\n");
+    if (count != 2 && count != 3) {
+        fprintf(stderr, "usage: example TABLE [SCHEMES]\n");
         return NOT_RUN;
     }
-    if (!read_text(arguments[1], text, &text_length)) {
+    if (!read_front(arguments[1], text, sizeof text, &text_length)) {
         return NOT_RUN;
     }
-    uint32_t result = placement_report(text, text_length, report, sizeof report);
+    if (count == 2) {
+        result = placement_report(text, text_length, report, sizeof report);
+    } else if (read_front(arguments[2], schemes, sizeof schemes, &schemes_length)) {
+        result = placement_report_under(schemes, schemes_length, text, text_length, report, sizeof report);
+    } else {
+        return NOT_RUN;
+    }
     if (!placement_accepted(result)) {
         explain(result);
         return REFUSED;

@@ -1,6 +1,6 @@
 /*
- * Calls placement_report on texts whose bytes after the first PLACEMENT_TEXT_LENGTH lie in a page that cannot be read. Status 1 where such a text is
- * not answered as its front is; a call that looks further ends by a signal.
+ * Calls placement_report and placement_report_under on texts whose bytes after the first PLACEMENT_TEXT_LENGTH lie in a page that cannot be read.
+ * Status 1 where such a text is not answered as its front is; a call that looks further ends by a signal.
  */
 #include "placement.h"
 
@@ -14,6 +14,7 @@
 static const uint8_t bytes[] = {0, 'E', '\n'};
 #define EXPECTED 1001u
 
+static const uint8_t schemes[] = {'S', ',', 'A', ',', '1', '1', '1', '1', '1'};
 static uint8_t report[PLACEMENT_REPORT_LENGTH];
 
 /* The front of a text, which ends where an unreadable page begins; NULL where there is no memory. */
@@ -38,8 +39,9 @@ int main(void) {
     for (size_t i = 0; i < sizeof bytes; i++) {
         memset(text, bytes[i], PLACEMENT_TEXT_LENGTH);
         uint32_t result = placement_report(text, PLACEMENT_TEXT_LENGTH + page, report, sizeof report);
-        if (result != EXPECTED) {
-            fprintf(stderr, "bytes of %u: %u\n", bytes[i], result);
+        uint32_t under = placement_report_under(schemes, sizeof schemes, text, PLACEMENT_TEXT_LENGTH + page, report, sizeof report);
+        if (result != EXPECTED || under != EXPECTED) {
+            fprintf(stderr, "bytes of %u: %u, and under a scheme file %u\n", bytes[i], result, under);
             return 1;
         }
     }

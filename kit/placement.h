@@ -1,5 +1,6 @@
 /*
- * placement, for a key loader in C or C++: a whole table in, its report or a refusal out; or a script of commands in, the answers out.
+ * placement, for a key loader in C or C++: a whole table in, its report or a refusal out, under the built-in six schemes or under a
+ * scheme file of the owner's; or a script of commands in, the answers out.
  *
  * Link with libplacement.a, which `rt staticlib placement` writes to target/staticlib. The archive is for x86-64 Linux and needs nothing
  * else but memcpy and memset of the C library. docs/NUMBERS.md has an example and a fix for every refusal.
@@ -15,9 +16,9 @@ extern "C" {
 #endif
 
 /* The version of this header and of the archive that belongs to it. CHANGELOG.md lists the versions. */
-#define PLACEMENT_VERSION "4.0.0"
+#define PLACEMENT_VERSION "4.1.0"
 #define PLACEMENT_VERSION_MAJOR 4
-#define PLACEMENT_VERSION_MINOR 0
+#define PLACEMENT_VERSION_MINOR 1
 #define PLACEMENT_VERSION_PATCH 0
 
 /* A report buffer has at least this many bytes, and no report is longer. */
@@ -26,15 +27,19 @@ extern "C" {
 /* What stands in a text after this many bytes changes nothing: by then a line has been refused, or the text has ended. */
 #define PLACEMENT_TEXT_LENGTH 25025
 
+/* What stands in a scheme file after this many bytes changes nothing: no accepted one has more than 112, and a longer one is refused with 25. */
+#define PLACEMENT_SCHEMES_LENGTH 113
+
 /*
  * Stack to have free for a call, in bytes. Measured for placement_report: 33,000 for ordinary tables, 62,000 for the deepest types found; for
- * placement_session on the same lines: 52,000 and 81,000. Nothing proves a bound; kit/test measures both anew and holds them to this number.
+ * placement_session on the same lines: 52,000 and 81,000. Nothing proves a bound; kit/test measures these two and placement_report_under anew and
+ * holds all three to this number.
  */
 #define PLACEMENT_STACK_LENGTH 131072
 
 /*
- * What placement_report returns: from here on this number plus the report's length; below it 1,000 times a refusal's number plus its line,
- * row or parameter.
+ * What placement_report and placement_report_under return: from here on this number plus the report's length; below it 1,000 times a refusal's
+ * number plus its line, row or parameter.
  */
 #define PLACEMENT_ACCEPTED 100000u
 
@@ -61,13 +66,17 @@ enum placement_refusal {
      * meets every floor. Lower the floor, or change what the program does with that input.
      */
     PLACEMENT_BELOW_FLOOR = 24,      /* a parameter's greatest scheme is not at or above its floor */
+    /* With 0, for a scheme file: from placement_report_under, and in the answers to a script. The first of the three that applies. */
+    PLACEMENT_SCHEME_FILE = 25,      /* not 1 to 8 lines, a line that is no S,NAME,BITS, or a repeated name or repeated digits */
+    PLACEMENT_NO_MEET = 26,          /* no greatest scheme, or two schemes without a greatest lower bound */
+    PLACEMENT_NO_HIGHEST = 27,       /* an operation that schemes support, and none of these is at or above all of them */
     /* In the answers to a script only. */
     PLACEMENT_NO_TERM_ROW = 9,       /* take-back with no term row */
-    PLACEMENT_NO_CODE = 12           /* redeclare with a code above 70 */
+    PLACEMENT_NO_CODE = 12           /* redeclare with a code above the last variable's, which is 70 under the built-in six */
 };
 
 /*
- * Reads the lines of a table and writes its report.
+ * Reads the lines of a table and writes its report, under the built-in six schemes.
  *
  * Accepted: returns PLACEMENT_ACCEPTED plus the report's length. The report stands at the front of the buffer, without a 0 at its end; the
  * bytes beyond it are as they were. Refused: returns the number and the place as above, and the whole buffer is as it was. A short buffer
@@ -92,23 +101,67 @@ enum placement_refusal {
 uint32_t placement_report(const uint8_t *text, size_t text_length, uint8_t *report, size_t report_length);
 
 /*
- * Answers the commands of a script in turn, from a fresh table on.
+ * The same under a scheme file: reads the lines of a table and writes its report, in which the owner's schemes stand in the place of the six.
+ *
+ * A scheme file has 1 to 8 lines S,NAME,BITS. NAME is 1 to 5 capital letters A to Z and not PLAIN. BITS is five digits 0 or 1 that say
+ * whether the scheme supports ADD, MUL, EQ, LT and GT, in this order. No two lines have the same name, and no two the same digits. A line ends
+ * in a line feed, which the last one may lack; carriage returns, blanks, comments and empty lines are refused with 25. The file of the six is
+ *
+ *   S,FHE,11111
+ *   S,OP,00111
+ *   S,DET,00100
+ *   S,MH,01000
+ *   S,AH,10000
+ *   S,RAND,00000
+ *
+ * One scheme is at or below another when it supports at least as much, and PLAIN is below all. In a file that is accepted there is a greatest
+ * scheme, any two qualifiers have a greatest lower bound, and an operation that some scheme supports has one highest scheme, which all that
+ * support it are at or below. An operation that no scheme supports has PLAIN as its highest: an input with a variable is PLAIN there and leaves
+ * in the open, unless its floor refuses that with 24.
+ *
+ * The qualifier words of the table are PLAIN and the file's names: in T and P lines, as floors and, without PLAIN, in ENC lines. Like all words
+ * they may be in either case. The report has the names as the file has them. A word of the six that the file does not name is none of the
+ * forms, so that its line is refused with 1.
+ *
+ * Returns what placement_report returns, or 25,000, 26,000 or 27,000 for a refused file. A short buffer is refused before the file is looked
+ * at, and the file before the text is. Refused: the whole buffer is as it was.
+ *
+ * schemes, text: any bytes, of any length. They are read and never changed.
+ * report: the caller's buffer. Nothing of it, of the file or of the text is kept after the call.
+ *
+ * The caller owes: pointers that are not null, also for length 0; lengths that are true; a buffer that overlaps neither the file nor the text,
+ * which may overlap each other; nobody else who writes to any of the three during the call; and PLACEMENT_STACK_LENGTH bytes of free stack.
+ *
+ * This call too takes no memory but its stack, holds no state and ends for every file and text, so threads may call it at once, each with a
+ * buffer of its own.
+ */
+uint32_t placement_report_under(const uint8_t *schemes, size_t schemes_length, const uint8_t *text, size_t text_length, uint8_t *report,
+                                size_t report_length);
+
+/*
+ * Answers the commands of a script in turn, from a fresh table of the built-in six schemes on.
  *
  * A script has one command a line; a last line without a line feed counts if it is not empty. Each line is answered by one or more lines:
  *
  *   add LINE           its number: 0, or a refusal's. LINE is a line of a table, any bytes
  *   redeclare P CODE   its number. Gives parameter P another qualifier: codes 0 to 6 are PLAIN, FHE, OP, DET, MH, AH and RAND, and
- *                      7 to 70 are g0 to g63. Both numbers are decimal, at most 4294967295 and without leading zeros. The
- *                      parameter's floor stays
+ *                      7 to 70 are g0 to g63. Under a file of n schemes code 0 is PLAIN, 1 to n are the schemes in the file's
+ *                      order, and n + 1 to n + 64 are g0 to g63. Both numbers are decimal, at most 4294967295 and without leading
+ *                      zeros. The parameter's floor stays
  *   take-back          its number. Drops the last term row
  *   infer              the report, as placement_report writes it, or NO,number,row; for 24 NO,24,parameter
+ *   schemes LINES      its number: 0, 25, 26 or 27. LINES is a scheme file, as placement_report_under takes it, with a blank in the
+ *                      place of each line feed: in a shell, echo schemes $(cat FILE). Accepted, the table from then on is a fresh one
+ *                      of that file's schemes, and what stood before is gone; refused, nothing is changed. The way back to the six
+ *                      is their own file
  *   any other line     ? and nothing is changed. Commands are in small letters
  *
  * Returns the length of all answers, at most SIZE_MAX. Where the buffer is long enough, they stand at its front, without a 0 at their end,
  * and the bytes beyond them are as they were. Where it is shorter, the whole buffer is as it was: call again with a buffer of that length.
  *
  * script: any bytes, of any length. They are read and never changed.
- * answers: the caller's buffer. Nothing of it, or of the script, is kept after the call, and the next call starts from a fresh table again.
+ * answers: the caller's buffer. Nothing of it, or of the script, is kept after the call, and the next call starts from a fresh table of the
+ * six again.
  *
  * The caller owes what placement_report asks for: pointers that are not null, also for length 0; lengths that are true; no overlap; nobody
  * else who writes during the call; and PLACEMENT_STACK_LENGTH bytes of free stack. This call takes no other memory, holds no state and ends

@@ -1,7 +1,7 @@
 /*
- * Measures the stack that calls of the entries take. Each table named is given to placement_report, and the script that adds its lines and
- * infers to placement_session, each in a thread whose stack was painted before; what is no longer paint was used. Status 1 where a call
- * took more than PLACEMENT_STACK_LENGTH.
+ * Measures the stack that calls of the entries take, on a scheme file and tables. Each table named is given to placement_report, with the file
+ * to placement_report_under, and the script that names the file's schemes, adds the table's lines and infers to placement_session, each in a
+ * thread whose stack was painted before; what is no longer paint was used. Status 1 where a call took more than PLACEMENT_STACK_LENGTH.
  */
 #include "placement.h"
 
@@ -15,17 +15,20 @@
 #define ROOM ((size_t)1 << 20)
 #define PAINT 0xA5
 
+#define SCHEMES "schemes "
 #define ADD "add "
 #define INFER "infer\n"
 
+static uint8_t schemes[PLACEMENT_SCHEMES_LENGTH];
+static size_t schemes_length;
 static uint8_t text[PLACEMENT_TEXT_LENGTH];
 static size_t text_length;
 static uint8_t report[PLACEMENT_REPORT_LENGTH];
 
-/* A text of line feeds alone has the longest script. An add is answered by at most two digits and a line feed. */
-static uint8_t script[PLACEMENT_TEXT_LENGTH * sizeof ADD + sizeof INFER];
+/* A text of line feeds alone has the longest script. A scheme file or an add is answered by at most two digits and a line feed. */
+static uint8_t script[sizeof SCHEMES + PLACEMENT_SCHEMES_LENGTH + PLACEMENT_TEXT_LENGTH * sizeof ADD + sizeof INFER];
 static size_t script_length;
-static uint8_t answers[PLACEMENT_TEXT_LENGTH * 3 + PLACEMENT_REPORT_LENGTH];
+static uint8_t answers[3 + PLACEMENT_TEXT_LENGTH * 3 + PLACEMENT_REPORT_LENGTH];
 
 /* An entry whose calls are measured, and the call that took the most. */
 struct measure {
@@ -43,6 +46,14 @@ static void *call_report(void *unused) {
     return begin;
 }
 
+/* The same under the scheme file. */
+static void *call_report_under(void *unused) {
+    (void)unused;
+    void *begin = __builtin_frame_address(0);
+    placement_report_under(schemes, schemes_length, text, text_length, report, sizeof report);
+    return begin;
+}
+
 /* The same for the script. */
 static void *call_session(void *unused) {
     (void)unused;
@@ -57,11 +68,22 @@ static void append(const void *bytes, size_t length) {
     script_length += length;
 }
 
-/* Makes the script that adds the text's lines and infers. */
+/* Appends the command that names the schemes: a blank stands for each line feed. */
+static void append_schemes(void) {
+    append(SCHEMES, sizeof SCHEMES - 1);
+    for (size_t i = 0; i < schemes_length; i++) {
+        uint8_t byte = schemes[i] == '\n' ? ' ' : schemes[i];
+        append(&byte, 1);
+    }
+    append("\n", 1);
+}
+
+/* Makes the script that names the schemes, adds the text's lines and infers. */
 static void make_script(void) {
     size_t line = 0;
 
     script_length = 0;
+    append_schemes();
     while (line < text_length) {
         const uint8_t *end = memchr(text + line, '\n', text_length - line);
         size_t length = end == NULL ? text_length - line : (size_t)(end - (text + line));
@@ -92,17 +114,16 @@ static size_t taken(void *(*call)(void *), uint8_t *stack) {
     return (size_t)((uint8_t *)begin - (stack + clean));
 }
 
-/* Reads a table and makes its script; where it cannot be read, says why and returns 0. */
-static int read_table(const char *path) {
+/* Reads as much of a file as there is room for; where it cannot be read, says why and returns 0. */
+static int read_front(const char *path, uint8_t *front, size_t room, size_t *length) {
     FILE *file = fopen(path, "rb");
 
     if (file == NULL) {
         perror(path);
         return 0;
     }
-    text_length = fread(text, 1, sizeof text, file);
+    *length = fread(front, 1, room, file);
     fclose(file);
-    make_script();
     return 1;
 }
 
@@ -122,22 +143,36 @@ static int take(struct measure *measure, const char *path, uint8_t *stack) {
 }
 
 int main(int count, char **arguments) {
-    struct measure measures[2] = {{"placement_report", call_report, 0, "none"}, {"placement_session", call_session, 0, "none"}};
+    struct measure measures[] = {
+        {"placement_report", call_report, 0, "none"},
+        {"placement_report_under", call_report_under, 0, "none"},
+        {"placement_session", call_session, 0, "none"},
+    };
+    size_t measures_count = sizeof measures / sizeof *measures;
     uint8_t *stack = mmap(NULL, ROOM, PROT_READ | PROT_WRITE, MAP_PRIVATE | MAP_ANONYMOUS, -1, 0);
-    int within = count > 1;
+    int within = count > 2;
 
     if (stack == MAP_FAILED) {
         perror("mmap");
         return 2;
     }
-    for (int i = 1; i < count; i++) {
-        if (!read_table(arguments[i]) || !take(&measures[0], arguments[i], stack) || !take(&measures[1], arguments[i], stack)) {
+    if (count > 1 && !read_front(arguments[1], schemes, sizeof schemes, &schemes_length)) {
+        return 2;
+    }
+    for (int i = 2; i < count; i++) {
+        if (!read_front(arguments[i], text, sizeof text, &text_length)) {
             return 2;
         }
+        make_script();
+        for (size_t k = 0; k < measures_count; k++) {
+            if (!take(&measures[k], arguments[i], stack)) {
+                return 2;
+            }
+        }
     }
-    for (int i = 0; i < 2; i++) {
-        printf("%s: at most %zu bytes of stack (%s)\n", measures[i].name, measures[i].most, measures[i].deepest);
-        within = within && measures[i].most <= PLACEMENT_STACK_LENGTH;
+    for (size_t k = 0; k < measures_count; k++) {
+        printf("%s: at most %zu bytes of stack (%s)\n", measures[k].name, measures[k].most, measures[k].deepest);
+        within = within && measures[k].most <= PLACEMENT_STACK_LENGTH;
     }
     return within ? 0 : 1;
 }

@@ -12,6 +12,15 @@ mod raw {
             report_length: usize,
         ) -> u32;
 
+        pub fn placement_report_under(
+            schemes: *const u8,
+            schemes_length: usize,
+            text: *const u8,
+            text_length: usize,
+            report: *mut u8,
+            report_length: usize,
+        ) -> u32;
+
         pub fn placement_session(
             script: *const u8,
             script_length: usize,
@@ -25,6 +34,21 @@ mod raw {
 pub fn placement_report(text: &[u8], report: &mut [u8]) -> u32 {
     // SAFETY: slices are never null, are valid for their lengths, and a mutable one overlaps no other.
     unsafe { raw::placement_report(text.as_ptr(), text.len(), report.as_mut_ptr(), report.len()) }
+}
+
+/// Writes the report of a text under a scheme file to the buffer's front, or refuses the file or the text and leaves the buffer as it was.
+pub fn placement_report_under(schemes: &[u8], text: &[u8], report: &mut [u8]) -> u32 {
+    // SAFETY: as above.
+    unsafe {
+        raw::placement_report_under(
+            schemes.as_ptr(),
+            schemes.len(),
+            text.as_ptr(),
+            text.len(),
+            report.as_mut_ptr(),
+            report.len(),
+        )
+    }
 }
 
 /// Gives the length of all answers to a script; writes them to the buffer's front where there is room for all.

@@ -6,10 +6,10 @@ use std::fmt;
 /// What the entry adds to a report's length.
 const ACCEPTED: u32 = 100_000;
 
-/// Why a table has no report; docs/NUMBERS.md has an example and a fix for each number.
+/// Why a table has no report, or a scheme file no table; docs/NUMBERS.md has an example and a fix for each number.
 #[derive(Clone, Copy, Debug, PartialEq, Eq)]
 pub struct Refusal {
-    /// 1 to 8 for a line, 10 or 11 for the whole, 21 to 23 for a row, 24 for a parameter.
+    /// 1 to 8 for a line, 10 or 11 for the whole, 21 to 23 for a row, 24 for a parameter, 25 to 27 for a scheme file.
     pub number: u32,
     /// Where the refusal stands.
     pub place: Place,
@@ -25,7 +25,7 @@ pub enum Place {
     Row(u32),
     /// A parameter, counted from 0: the lowest whose greatest scheme is not at or above its floor.
     Parameter(u32),
-    /// The table as a whole, or the buffer.
+    /// The table as a whole, the buffer, or the scheme file.
     Whole,
 }
 
@@ -50,7 +50,8 @@ impl Refusal {
         match self.number {
             1 => {
                 "longer than 64 bytes, or none of the forms: \
-                 T, P and E are capitals, and the g of a variable is small"
+                 T, P and E are capitals, and the g of a variable is small; \
+                 scheme words are those of the scheme file, or of the six where none is given"
             }
             2 => "own number is not the next in its list",
             3 => "list full: 64 types, 64 parameters, 256 term rows",
@@ -67,6 +68,20 @@ impl Refusal {
             24 => {
                 "the greatest scheme for this input is not at or above its floor: \
                  lower the floor, or change what the program does with the input"
+            }
+            25 => {
+                "the scheme file does not have 1 to 8 lines S,NAME,BITS \
+                 with names of 1 to 5 capitals other than PLAIN, each with five digits 0 or 1, \
+                 or two lines have the same name or the same digits"
+            }
+            26 => {
+                "the scheme file has no greatest scheme, or two schemes in it have no greatest lower bound: \
+                 add a scheme that supports exactly what all schemes have in common, \
+                 or one that supports exactly what those two support together"
+            }
+            27 => {
+                "an operation has supporters in the scheme file, but no highest one: \
+                 add a scheme that supports exactly what all its supporters have in common"
             }
             _ => "unknown number",
         }
