@@ -279,6 +279,7 @@ fn word(line: &[u8]) -> &'static str {
         Some(Command::Redeclare(..)) => "redeclare",
         Some(Command::TakeBack) => "take-back",
         Some(Command::Infer) => "infer",
+        Some(Command::Schemes(_)) => "schemes",
         None => "?",
     }
 }

@@ -15,6 +15,8 @@ pub enum Command<'a> {
     TakeBack,
     /// Infer.
     Infer,
+    /// Go on with a fresh table of the scheme file that has these lines, a blank standing for each line feed.
+    Schemes(&'a [u8]),
 }
 
 impl Command<'_> {
@@ -22,6 +24,9 @@ impl Command<'_> {
     pub fn read(line: &[u8]) -> Option<Command<'_>> {
         if let Some(added) = line.strip_prefix(b"add ") {
             return Some(Command::Add(added));
+        }
+        if let Some(lines) = line.strip_prefix(b"schemes ") {
+            return Some(Command::Schemes(lines));
         }
         let words: Vec<&[u8]> = line.split(|&byte| byte == b' ').collect();
         match *words.as_slice() {
@@ -43,8 +48,23 @@ impl Command<'_> {
             }
             Command::TakeBack => number_line(table.take_back()),
             Command::Infer => inferred(table),
+            Command::Schemes(lines) => number_line(renew(table, &scheme_file(lines))),
         }
     }
+}
+
+/// The scheme file that a command names, with a line feed for each blank.
+pub fn scheme_file(lines: &[u8]) -> Vec<u8> {
+    lines.iter().map(|&byte| if byte == b' ' { b'\n' } else { byte }).collect()
+}
+
+/// Puts a fresh table of a scheme file in a table's place, unless the file is refused; returns 0 or the refusal's number.
+fn renew(table: &mut Table, file: &[u8]) -> u32 {
+    let (fresh, number) = Table::fresh_under(file);
+    if number == 0 {
+        *table = fresh;
+    }
+    number
 }
 
 /// What is printed in answer to one line, which may change the table.

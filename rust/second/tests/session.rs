@@ -4,7 +4,7 @@ mod common;
 
 use common::text;
 use second::session;
-use second::session::{entry, Command};
+use second::session::{entry, scheme_file, Command};
 
 /// Program A of document 01, and its report as the document prints it.
 const PROGRAM_A: [&str; 6] =
@@ -12,7 +12,7 @@ const PROGRAM_A: [&str; 6] =
 const REPORT_A: &str = "OK,1,4 G,0,AH P,0,AH,INT E,0,AH,INT E,1,AH,INT E,2,AH,INT E,3,PLAIN,ARROW";
 
 /// Lines that are no commands, though most of them are near one.
-const NO_COMMANDS: [&[u8]; 64] = [
+const NO_COMMANDS: [&[u8]; 75] = [
     b"", b" ", b"\r", b"\0", b"?", b"0", b"help", b"# a comment", b"T,0,ANY", b"E,4,NUM,1", b"add",
     b"Add E,4,NUM,1", b"ADD E,4,NUM,1", b" add E,4,NUM,1", b"adds E,4,NUM,1", b"ad E,4,NUM,1",
     b"add,E,4,NUM,1", b"add\tE,4,NUM,1", b"add\r", b"add\0E,4,NUM,1", b"addE,4,NUM,1",
@@ -24,7 +24,9 @@ const NO_COMMANDS: [&[u8]; 64] = [
     b"redeclare 0 +6", b"redeclare 0 6.0", b"redeclare 0x0 6", b"redeclare 0 RAND",
     b"redeclare 0 g0", b"redeclare x 6", b"Redeclare 0 6", b"redeclare0 6", b"redeclared 0 6",
     b"take-back ", b" take-back", b"take-back\r", b"take back", b"takeback", b"Take-back",
-    b"infer ", b" infer", b"infer\r", b"INFER",
+    b"infer ", b" infer", b"infer\r", b"INFER", b"schemes", b"schemes\r", b"schemes\0",
+    b"schemes\tS,A,00000", b"schemes,S,A,00000", b"schemesS,A,00000", b" schemes S,A,00000",
+    b"scheme S,A,00000", b"Schemes S,A,00000", b"SCHEMES S,A,00000", b"S,A,00000",
 ];
 
 /// Lines that would be commands if their numbers were not too large; cut to 32 or 64 bits some name parameter 0 or code 6.
@@ -45,8 +47,18 @@ fn no_commands() -> impl Iterator<Item = &'static [u8]> {
 /// A line of a script and what is printed of it, lines separated by white space.
 type Exchange<'a> = (&'a str, &'a str);
 
-/// Asserts what is printed of each line of a script, and of the whole with or without its last line feed.
+/// The command that goes on with a fresh table of the six.
+const SCHEMES_OF_THE_SIX: &str =
+    "schemes S,FHE,11111 S,OP,00111 S,DET,00100 S,MH,01000 S,AH,10000 S,RAND,00000";
+
+/// Asserts what is printed of a script; the file of the six before it changes none of its answers.
 fn assert_exchanges(exchanges: &[Exchange]) {
+    assert_printed(exchanges);
+    assert_printed(&[&[(SCHEMES_OF_THE_SIX, "0")], exchanges].concat());
+}
+
+/// Asserts what is printed of each line of a script, and of the whole with or without its last line feed.
+fn assert_printed(exchanges: &[Exchange]) {
     let (mut script, mut expected) = (vec![], vec![]);
     for (line, printed) in exchanges {
         script.extend(format!("{line}\n").into_bytes());
@@ -75,10 +87,12 @@ fn commands(lines: &str) -> Vec<String> {
 
 /// Asserts what is printed after the adds of some lines, all accepted.
 fn assert_after(lines: &str, exchanges: &[Exchange]) {
-    let commands = commands(lines);
-    let mut all = adds(&commands);
-    all.extend(exchanges);
-    assert_exchanges(&all);
+    assert_exchanges(&[&adds(&commands(lines)), exchanges].concat());
+}
+
+/// Asserts what is printed after a command that goes on under other schemes, and the adds of some lines, all accepted.
+fn assert_under(schemes: &str, lines: &str, exchanges: &[Exchange]) {
+    assert_exchanges(&[&[(schemes, "0")], &adds(&commands(lines))[..], exchanges].concat());
 }
 
 #[test]
@@ -337,6 +351,242 @@ fn an_inference_goes_by_the_rows_that_are_left() {
     );
 }
 
+/// A command with two schemes: LOW supports ADD and is below HIGH, which supports nothing.
+const TWO_SCHEMES: &str = "schemes S,LOW,10000 S,HIGH,00000";
+
+/// The report of program A under the two schemes.
+const REPORT_UNDER_TWO: &str =
+    "OK,1,4 G,0,LOW P,0,LOW,INT E,0,LOW,INT E,1,LOW,INT E,2,LOW,INT E,3,PLAIN,ARROW";
+
+#[test]
+fn a_report_has_the_words_of_the_file() {
+    assert_under(
+        TWO_SCHEMES,
+        &PROGRAM_A.join(" "),
+        &[
+            ("infer", REPORT_UNDER_TWO),
+            ("redeclare 0 2", "0"),
+            // HIGH does not support ADD.
+            ("infer", "NO,23,2"),
+            ("redeclare 0 1", "0"),
+            ("infer", "OK,1,4 P,0,LOW,INT E,0,LOW,INT E,1,LOW,INT E,2,LOW,INT E,3,PLAIN,ARROW"),
+            ("take-back", "0"),
+            ("take-back", "0"),
+            // No scheme supports MUL, so that only PLAIN is multiplied.
+            ("add E,2,OP,MUL,0,1", "0"),
+            ("add E,3,LAM,0,2", "0"),
+            ("infer", "NO,23,2"),
+            ("redeclare 0 3", "0"),
+            (
+                "infer",
+                "OK,1,4 G,0,PLAIN P,0,PLAIN,INT E,0,PLAIN,INT E,1,PLAIN,INT E,2,PLAIN,INT
+                 E,3,PLAIN,ARROW",
+            ),
+        ],
+    );
+}
+
+#[test]
+fn words_in_lines_follow_the_file() {
+    assert_under(
+        TWO_SCHEMES,
+        "T,0,INT",
+        &[
+            ("add P,0,AH,0", "1"),
+            ("add P,0,LOW,0,AH", "1"),
+            ("add E,0,ENC,RAND,7", "1"),
+            ("add E,0,ENC,PLAIN,7", "1"),
+            ("add P,0,hiGH,0,low", "0"),
+            ("add E,0,ENC,High,7", "0"),
+            ("add E,1,LAM,0,0", "0"),
+            ("infer", "OK,1,2 P,0,HIGH,INT E,0,HIGH,INT E,1,PLAIN,ARROW"),
+            // PLAIN is below the floor.
+            ("redeclare 0 0", "0"),
+            ("infer", "NO,24,0"),
+            ("redeclare 0 1", "0"),
+            ("infer", "OK,1,2 P,0,LOW,INT E,0,HIGH,INT E,1,PLAIN,ARROW"),
+        ],
+    );
+}
+
+#[test]
+fn an_accepted_file_begins_a_fresh_table() {
+    let fresh = [("infer", "NO,10,0"), ("take-back", "9"), ("redeclare 0 0", "5")];
+    let program = commands(&PROGRAM_A.join(" "));
+    let (six, two) = ([("infer", REPORT_A)], [("infer", REPORT_UNDER_TWO)]);
+    let under = |schemes, report: &[Exchange<'static>]| {
+        [&[(schemes, "0")], &fresh[..], &adds(&program), report].concat()
+    };
+    assert_exchanges(&[adds(&program), six.to_vec(), under(TWO_SCHEMES, &two)].concat());
+    assert_exchanges(
+        &[
+            under(TWO_SCHEMES, &two),
+            under(TWO_SCHEMES, &two),
+            under(SCHEMES_OF_THE_SIX, &six),
+            under("schemes S,LOW,11111", &two),
+        ]
+        .concat(),
+    );
+}
+
+/// Commands whose files are refused, each with its number.
+const REFUSED_SCHEMES: [Exchange; 34] = [
+    ("schemes ", "25"),
+    ("schemes  ", "25"),
+    // A malformed line.
+    ("schemes infer", "25"),
+    ("schemes S,A", "25"),
+    ("schemes S,A,0000", "25"),
+    ("schemes S,A,000000", "25"),
+    ("schemes S,A,00002", "25"),
+    ("schemes S,A,00000,", "25"),
+    ("schemes S,A,00000\r", "25"),
+    ("schemes S,,00000", "25"),
+    ("schemes S,ABCDEF,00000", "25"),
+    ("schemes S,A1,00000", "25"),
+    ("schemes S,PLAIN,00000", "25"),
+    ("schemes T,A,00000", "25"),
+    // Small letters are read in the lines of a table alone.
+    ("schemes s,A,00000", "25"),
+    ("schemes S,a,00000", "25"),
+    ("schemes S,low,10000 S,high,00000", "25"),
+    ("schemes S,LOW,10000 S,HIGh,00000", "25"),
+    // An empty line.
+    ("schemes  S,A,00000", "25"),
+    ("schemes S,A,00000  ", "25"),
+    ("schemes S,LOW,10000  S,HIGH,00000", "25"),
+    ("schemes S,LOW,10000   S,HIGH,00000", "25"),
+    // A repeated name, repeated bits, nine lines.
+    ("schemes S,A,00000 S,A,10000", "25"),
+    ("schemes S,A,10000 S,B,10000", "25"),
+    (
+        "schemes S,A,00000 S,B,10000 S,C,01000 S,D,00100 S,E,11000 S,F,10100 S,H,01100 S,I,11100 \
+         S,J,11110",
+        "25",
+    ),
+    // Lines count before the order of the schemes.
+    ("schemes S,A,10000 S,B,01000 S,C,0", "25"),
+    ("schemes S,A,00000 S,B,10001 S,C,01001 S,C,11111", "25"),
+    // No greatest scheme.
+    ("schemes S,A,10000 S,B,01000", "26"),
+    ("schemes S,A,11110 S,B,01111 S,C,11111", "26"),
+    // Both C and D are below A and B, and neither is below the other.
+    ("schemes S,Z,00000 S,A,10000 S,B,01000 S,C,11100 S,D,11010", "26"),
+    // The order counts before the operations: two schemes support GT here, and none is the greatest.
+    ("schemes S,A,10001 S,B,01001", "26"),
+    // A and B support GT, and neither is below the other.
+    ("schemes S,Z,00000 S,A,10001 S,B,01001", "27"),
+    ("schemes S,Z,00000 S,A,10001 S,B,01001 ", "27"),
+    ("schemes S,A,10001 S,Z,00000 S,B,01001 S,C,11111", "27"),
+];
+
+#[test]
+fn a_refused_file_changes_neither_the_table_nor_its_schemes() {
+    for refused in REFUSED_SCHEMES {
+        assert_exchanges(&[refused, ("infer", "NO,10,0"), refused]);
+        assert_after(
+            &PROGRAM_A.join(" "),
+            &[
+                refused,
+                ("infer", REPORT_A),
+                ("redeclare 0 70", "0"),
+                refused,
+                ("redeclare 0 71", "12"),
+                ("take-back", "0"),
+                ("add E,3,LAM,0,2", "0"),
+                (
+                    "infer",
+                    "OK,1,4 G,63,AH P,0,AH,INT E,0,AH,INT E,1,AH,INT E,2,AH,INT E,3,PLAIN,ARROW",
+                ),
+            ],
+        );
+        assert_under(
+            TWO_SCHEMES,
+            &PROGRAM_A.join(" "),
+            &[
+                refused,
+                ("infer", REPORT_UNDER_TWO),
+                ("redeclare 0 67", "12"),
+                ("add P,1,AH,0", "1"),
+                ("add P,1,LOW,0", "0"),
+            ],
+        );
+    }
+}
+
+#[test]
+fn a_blank_at_the_end_is_the_last_line_feed() {
+    let with_blank = format!("{TWO_SCHEMES} ");
+    assert_under(&with_blank, &PROGRAM_A.join(" "), &[("infer", REPORT_UNDER_TWO)]);
+    let with_two = format!("{TWO_SCHEMES}  ");
+    assert_exchanges(&[(&with_two, "25"), ("add T,0,INT", "0"), ("add P,0,AH,0", "0")]);
+}
+
+#[test]
+fn the_longest_file_has_112_bytes() {
+    let bits = ["00000", "10000", "01000", "00100", "11000", "10100", "01100", "11100"];
+    let names = ["AAAAA", "BBBBB", "CCCCC", "DDDDD", "EEEEE", "FFFFF", "GGGGG", "HHHHH"];
+    let lines: String = names.iter().zip(bits).map(|it| format!("S,{},{} ", it.0, it.1)).collect();
+    assert_eq!(lines.len(), 112);
+    let longest = format!("schemes {lines}");
+    assert_under(&longest, "E,0,NUM,1", &[("infer", "OK,0,1 E,0,AAAAA,INT")]);
+    for more in [" ", "  ", "S", "S,IIIII,11110", "S,IIIII,11110 ", "\r", "0"] {
+        assert_exchanges(&[(&format!("{longest}{more}"), "25"), ("add E,0,ENC,AH,1", "0")]);
+    }
+}
+
+#[test]
+fn any_byte_but_a_blank_behind_a_scheme_file_is_refused() {
+    for byte in (0..=255).filter(|&byte| byte != b'\n') {
+        let behind = [b"schemes S,A,00000".as_slice(), &[byte]].concat();
+        let expected = if byte == b' ' { "0\\n" } else { "25\\n" };
+        assert_eq!(shown(&session(&behind)), expected, "for {byte}");
+        let alone = [b"schemes ".as_slice(), &[byte]].concat();
+        assert_eq!(shown(&session(&alone)), "25\\n", "for {byte}");
+    }
+}
+
+/// The command with eight schemes, the greatest of them last.
+const EIGHT_SCHEMES: &str = "schemes S,A,11100 S,B,10000 S,C,01000 S,D,00100 S,E,11000 S,F,10100 \
+                             S,G,01100 S,H,00000";
+
+#[test]
+fn codes_follow_the_file() {
+    // The greatest scheme is the last one, with its code; then come the variables' codes, which are 64.
+    for (schemes, word, scheme, first, last, above) in [
+        ("schemes S,ONE,11111", "ONE", 1, 2, 65, 66),
+        (TWO_SCHEMES, "HIGH", 2, 3, 66, 67),
+        (SCHEMES_OF_THE_SIX, "RAND", 6, 7, 70, 71),
+        (EIGHT_SCHEMES, "H", 8, 9, 72, 73),
+    ] {
+        let report = |variable: &str, word: &str| {
+            format!("OK,1,2 {variable} P,0,{word},INT E,0,{word},INT E,1,PLAIN,ARROW")
+        };
+        let named = |variable: u32| report(&format!("G,{variable},{word}"), word);
+        let redeclare = |code: u32| format!("redeclare 0 {code}");
+        assert_under(
+            schemes,
+            "T,0,INT P,0,g5,0 E,0,VAR,0 E,1,LAM,0,0",
+            &[
+                (&redeclare(above), "12"),
+                ("infer", &named(5)),
+                (&redeclare(0), "0"),
+                ("infer", &report("", "PLAIN")),
+                (&redeclare(scheme), "0"),
+                ("infer", &report("", word)),
+                (&redeclare(first), "0"),
+                ("infer", &named(0)),
+                (&redeclare(last), "0"),
+                ("infer", &named(63)),
+                (&redeclare(above), "12"),
+                ("infer", &named(63)),
+                ("redeclare 0 4294967295", "12"),
+                ("redeclare 1 0", "5"),
+            ],
+        );
+    }
+}
+
 #[test]
 fn a_line_that_is_no_command_prints_a_question_mark() {
     for line in no_commands() {
@@ -373,6 +623,18 @@ fn commands_are_read() {
     );
     assert_eq!(Command::read(b"take-back"), Some(Command::TakeBack));
     assert_eq!(Command::read(b"infer"), Some(Command::Infer));
+    assert_eq!(Command::read(b"schemes "), Some(Command::Schemes(b"")));
+    assert_eq!(Command::read(b"schemes  "), Some(Command::Schemes(b" ")));
+    assert_eq!(Command::read(b"schemes infer"), Some(Command::Schemes(b"infer")));
+    assert_eq!(Command::read(b"schemes S,A,1 S,B,0 "), Some(Command::Schemes(b"S,A,1 S,B,0 ")));
+}
+
+#[test]
+fn a_blank_in_a_scheme_file_stands_for_a_line_feed() {
+    assert_eq!(scheme_file(b""), b"");
+    assert_eq!(scheme_file(b" "), b"\n");
+    assert_eq!(scheme_file(b"S,A,1 S,B,0"), b"S,A,1\nS,B,0");
+    assert_eq!(scheme_file(b"  S,A,1\r\t\0 "), b"\n\nS,A,1\r\t\0\n");
 }
 
 #[test]
@@ -397,8 +659,11 @@ fn lines_may_be_long() {
     let added = [b"add ".to_vec(), million(b'1')].concat();
     let redeclared = [b"redeclare 0 ".to_vec(), million(b'0')].concat();
     let inferred = [b"infer".to_vec(), million(b' ')].concat();
-    let script = [added, redeclared, inferred, million(0), b"add E,0,NUM,1".to_vec()].join(&b'\n');
-    assert_eq!(shown(&session(&script)), "1\\n?\\n?\\n?\\n0\\n");
+    let named = [b"schemes S,".to_vec(), million(b'A'), b",00000".to_vec()].concat();
+    let blank = [b"schemes S,A,00000".to_vec(), million(b' ')].concat();
+    let last = b"add E,0,NUM,1".to_vec();
+    let script = [added, redeclared, inferred, named, blank, million(0), last].join(&b'\n');
+    assert_eq!(shown(&session(&script)), "1\\n?\\n?\\n25\\n25\\n?\\n0\\n");
 }
 
 #[test]
