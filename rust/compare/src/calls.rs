@@ -125,7 +125,7 @@ fn fitting_line(random: &mut Random, table: &Table) -> Vec<u8> {
         Field::TypeRow => random.between(0, table.types.len()).to_string(),
         Field::Parameter => random.between(0, table.params.len()).to_string(),
         Field::Row => recent_row(random, table.terms.len()).to_string(),
-        _ => random_text(random, field),
+        _ => random_text(random, table.schemes(), field),
     };
     let line = form.line(text);
     in_any_case(random, line.as_bytes())

@@ -28,6 +28,15 @@ mod raw {
             report_length: usize,
         ) -> u32;
 
+        pub fn placement_report_under(
+            schemes: *const u8,
+            schemes_length: usize,
+            text: *const u8,
+            text_length: usize,
+            report: *mut u8,
+            report_length: usize,
+        ) -> u32;
+
         pub fn placement_session(
             script: *const u8,
             script_length: usize,
@@ -74,6 +83,21 @@ pub fn run_calls(script: &[u8], numbers: &mut [u16], entries: &mut [u8]) -> u64 
 pub fn placement_report(text: &[u8], report: &mut [u8]) -> u32 {
     // SAFETY: both slices are valid for their lengths during the call, and only `report` is written.
     unsafe { raw::placement_report(text.as_ptr(), text.len(), report.as_mut_ptr(), report.len()) }
+}
+
+/// The same under the schemes of a file; a refused file gives its number x 1,000 and leaves the report's bytes.
+pub fn placement_report_under(schemes: &[u8], text: &[u8], report: &mut [u8]) -> u32 {
+    // SAFETY: the slices are valid for their lengths during the call, and only `report` is written.
+    unsafe {
+        raw::placement_report_under(
+            schemes.as_ptr(),
+            schemes.len(),
+            text.as_ptr(),
+            text.len(),
+            report.as_mut_ptr(),
+            report.len(),
+        )
+    }
 }
 
 /// Runs the commands of a script on a table of its own; writes all answers where there is room for all.

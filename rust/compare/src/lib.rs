@@ -4,11 +4,13 @@
 
 mod exported;
 
+pub mod answers;
 pub mod buffers;
 pub mod calls;
 pub mod numbers;
 pub mod pieces;
 pub mod programs;
+pub mod questions;
 pub mod script;
 pub mod sessions;
 pub mod slowest;
@@ -16,4 +18,6 @@ pub mod texts;
 pub mod well_formed;
 pub mod words;
 
-pub use exported::{placement_report, placement_session, read_line, run_calls, session_lent};
+pub use exported::{
+    placement_report, placement_report_under, placement_session, read_line, run_calls, session_lent,
+};

@@ -1,6 +1,6 @@
-//! The slowest of many calls of the C entry.
+//! The slowest of many calls of the C entries for texts.
 
-use crate::placement_report;
+use crate::questions::Question;
 use std::io::Write;
 use std::time::{Duration, Instant};
 
@@ -19,22 +19,22 @@ pub struct Slowest {
 }
 
 impl Slowest {
-    /// Takes a call into account that was made for this text and buffer and took so long at first.
+    /// Takes a call into account that was made for this question and buffer and took so long at first.
     ///
     /// Only a call that may be the slowest one is repeated.
-    pub fn take(&mut self, text: &[u8], buffer: &mut [u8], about: &str, first: Duration) {
+    pub fn take(&mut self, question: Question, buffer: &mut [u8], about: &str, first: Duration) {
         if first <= self.time {
             return;
         }
         let repeated = (0..REPEATS).map(|_| {
             let start = Instant::now();
-            placement_report(text, buffer);
+            question.ask(buffer);
             start.elapsed()
         });
         let shortest = repeated.fold(first, Duration::min);
         if shortest > self.time {
             self.time = shortest;
-            self.about = format!("{about}, {} bytes", text.len());
+            self.about = format!("{about}, {} bytes", question.text.len());
         }
     }
 

@@ -2,7 +2,8 @@
 
 use second::generate::{in_any_case, Random};
 use second::operation::Operation;
-use second::qualifier::{Qualifier, NAMED_VARIABLES};
+use second::qualifier::NAMED_VARIABLES;
+use second::SchemeTable;
 
 /// What stands in a field that is no fixed word.
 #[derive(Clone, Copy, Debug, PartialEq, Eq)]
@@ -21,22 +22,21 @@ pub enum Field {
     Qualifier,
     /// A floor: a qualifier, but no named variable.
     Floor,
-    /// One of the six schemes.
+    /// A scheme.
     Scheme,
     /// An operation.
     Operation,
 }
 
 impl Field {
-    /// The words that may stand in this field.
-    pub fn words(self) -> Vec<&'static str> {
-        let qualifiers = Qualifier::ALL.map(Qualifier::word);
+    /// The words that may stand in this field under a scheme table.
+    pub fn words(self, schemes: &SchemeTable) -> Vec<String> {
         match self {
             Field::Own | Field::TypeRow | Field::Parameter | Field::Row | Field::Number => vec![],
-            Field::Qualifier | Field::Floor => qualifiers.to_vec(),
+            Field::Qualifier | Field::Floor => schemes.words(),
             // The first qualifier is PLAIN, which is no scheme.
-            Field::Scheme => qualifiers[1..].to_vec(),
-            Field::Operation => Operation::ALL.map(Operation::word).to_vec(),
+            Field::Scheme => schemes.words().split_off(1),
+            Field::Operation => Operation::ALL.map(|it| it.word().to_string()).to_vec(),
         }
     }
 }
@@ -99,13 +99,14 @@ impl Form {
         self.first_fields() + self.fields.len()
     }
 
-    /// The words that may stand in the line, each with the place of its field.
-    pub fn words(&self) -> Vec<(usize, &'static str)> {
-        let own = [self.word].into_iter().filter(|word| !word.is_empty()).map(|word| (2, word));
+    /// The words that may stand in the line under the built-in six, each with the place of its field.
+    pub fn words(&self) -> Vec<(usize, String)> {
+        let own = [self.word].into_iter().filter(|word| !word.is_empty());
         let open = (self.first_fields()..).zip(self.fields);
-        let others =
-            open.flat_map(|(place, field)| field.words().into_iter().map(move |it| (place, it)));
-        own.chain(others).collect()
+        let others = open.flat_map(|(place, field)| {
+            field.words(SchemeTable::six()).into_iter().map(move |word| (place, word))
+        });
+        own.map(|word| (2, word.to_string())).chain(others).collect()
     }
 
     /// The line of this form with one given field, and the lowest text in all others.
@@ -123,10 +124,15 @@ pub fn random_form(random: &mut Random) -> Form {
     ALL[random.below(ALL.len())]
 }
 
-/// A line of a random form with random fields, often at their limits, and words in any case.
+/// A line under the built-in six, as [`random_line_under`] makes it.
 pub fn random_line(random: &mut Random) -> Vec<u8> {
+    random_line_under(random, SchemeTable::six())
+}
+
+/// A line of a random form with random fields, often at their limits, and words in any case.
+pub fn random_line_under(random: &mut Random, schemes: &SchemeTable) -> Vec<u8> {
     let form = random_form(random);
-    let line = form.line(|field| random_text(random, field));
+    let line = form.line(|field| random_text(random, schemes, field));
     in_any_case(random, line.as_bytes())
 }
 
@@ -140,8 +146,8 @@ fn lowest(field: Field) -> &'static str {
     }
 }
 
-/// A random text that may stand in a field; a word is in capitals.
-pub fn random_text(random: &mut Random, field: Field) -> String {
+/// A random text that may stand in a field under a scheme table; a word is in capitals.
+pub fn random_text(random: &mut Random, schemes: &SchemeTable, field: Field) -> String {
     match field {
         Field::Own | Field::TypeRow | Field::Parameter | Field::Row => {
             random_number(random, u16::MAX.into()).to_string()
@@ -151,8 +157,8 @@ pub fn random_text(random: &mut Random, field: Field) -> String {
             format!("g{}", random.below(NAMED_VARIABLES.into()))
         }
         Field::Qualifier | Field::Floor | Field::Scheme | Field::Operation => {
-            let words = field.words();
-            words[random.below(words.len())].to_string()
+            let mut words = field.words(schemes);
+            words.swap_remove(random.below(words.len()))
         }
     }
 }

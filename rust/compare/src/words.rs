@@ -41,7 +41,7 @@ impl WordCounts {
     pub fn assert_each(&self, fewest: usize) {
         for (number, form) in ALL.iter().enumerate() {
             for (place, word) in form.words() {
-                let seen = |case| (number, place, word.to_string(), case);
+                let seen = |case| (number, place, word.clone(), case);
                 self.0.assert_each(LetterCase::ALL.map(seen), fewest);
             }
         }

@@ -1,9 +1,11 @@
 //! The program `session` answers scripts as the reference does, and each line as soon as it has come.
 
+use compare::answers::{number, word};
 use compare::buffers::{assert_bytes, shown};
 use compare::pieces::{pieces, printed, WHOLE};
 use compare::programs::{ended, program, start};
-use compare::sessions::random_script;
+use compare::sessions::{random_script, random_script_with_files, schemes_command, LONGEST_FILE};
+use second::counts::Counts;
 use second::generate::Random;
 use second::place::lines;
 use second::session::{answer, session};
@@ -23,13 +25,52 @@ const LIMIT: Duration = Duration::from_secs(20);
 /// How long nothing may come where nothing is due.
 const SILENCE: Duration = Duration::from_millis(50);
 
-/// All four commands, and other lines, with the table in every state.
-const COMMANDS: [&str; 29] = [
-    "infer", "take-back", "redeclare 0 0", "add T,0,any", "add P,0,G0,0,ah", "add P,0,g0,0,ah",
-    "add P,1,g0,1", "add E,0,VAR,0", "add E,1,Var,0", "add E,2,op,aDD,0,1", "infer",
-    "add E,3,LAM,0,2", "infer", "redeclare 0 6", "infer", "redeclare 0 71", "", "redeclare 0 5",
-    "infer", "take-back", "infer", "add", "add E,3,LAM,0,2", "infer", "redeclare 0 1", "infer",
-    "redeclare 0 7", "infer", "take-back ",
+/// All five commands, and other lines, with the table in every state.
+const COMMANDS: [&str; 44] = [
+    "infer",
+    "take-back",
+    "redeclare 0 0",
+    "add T,0,any",
+    "add P,0,G0,0,ah",
+    "add P,0,g0,0,ah",
+    "add P,1,g0,1",
+    "add E,0,VAR,0",
+    "add E,1,Var,0",
+    "add E,2,op,aDD,0,1",
+    "infer",
+    "add E,3,LAM,0,2",
+    "infer",
+    "redeclare 0 6",
+    "infer",
+    "redeclare 0 71",
+    "",
+    "redeclare 0 5",
+    "infer",
+    "take-back",
+    "infer",
+    "add",
+    "add E,3,LAM,0,2",
+    "infer",
+    "redeclare 0 1",
+    "infer",
+    "redeclare 0 7",
+    "infer",
+    "schemes",
+    "schemes ",
+    "schemes S,LOW,10000  S,HIGH,00000",
+    "schemes S,A,10000 S,B,01000",
+    "schemes S,Z,00000 S,A,10001 S,B,01001",
+    "infer",
+    "schemes S,LOW,10000 S,HIGH,00000",
+    "infer",
+    "take-back",
+    "add T,0,INT",
+    "add P,0,ah,0",
+    "add P,0,high,0,LOW",
+    "redeclare 0 67",
+    "schemes s,A,00000",
+    "redeclare 0 66",
+    "take-back ",
 ];
 
 /// Asserts that the program prints the reference's answers for a script in these pieces.
@@ -152,18 +193,43 @@ fn scripts_may_come_in_any_pieces() {
     }
 }
 
+/// Asserts that the program prints the reference's answers for a script, which comes whole, in single bytes or in random pieces.
+fn assert_generated(random: &mut Random, about: &str, script: &[u8]) {
+    let about = format!("{about}, {}", shown(script));
+    match random.below(4) {
+        0 => assert_answers(&about, script, &random_pieces(random, script)),
+        1 => assert_answers(&about, script, &pieces(script, 1)),
+        _ => assert_answers(&about, script, &pieces(script, WHOLE)),
+    }
+}
+
 #[test]
 fn generated_scripts_are_answered_alike() {
     let mut random = Random::seeded(2);
     for _ in 0..SCRIPTS {
         let (kind, script) = random_script(&mut random);
-        let about = format!("{kind:?}, {}", shown(&script));
-        match random.below(4) {
-            0 => assert_answers(&about, &script, &random_pieces(&mut random, &script)),
-            1 => assert_answers(&about, &script, &pieces(&script, 1)),
-            _ => assert_answers(&about, &script, &pieces(&script, WHOLE)),
+        assert_generated(&mut random, &format!("{kind:?}"), &script);
+    }
+}
+
+#[test]
+fn generated_scripts_with_files_are_answered_alike() {
+    let mut random = Random::seeded(5);
+    let mut numbers = Counts::default();
+    for _ in 0..SCRIPTS {
+        let (kinds, script) = random_script_with_files(&mut random);
+        assert_generated(&mut random, &format!("{kinds:?}"), &script);
+        let mut table = Table::fresh();
+        for line in lines(&script) {
+            let answer = answer(&mut table, line);
+            if word(line) == "schemes" {
+                numbers.add(number(&answer));
+            }
         }
     }
+    println!("{:?}", numbers.0);
+    numbers.assert_each([0, 25, 26], SCRIPTS);
+    numbers.assert_each([27], SCRIPTS / 4);
 }
 
 #[test]
@@ -176,6 +242,8 @@ fn generated_conversations_are_answered_line_by_line() {
     let mut random = Random::seeded(3);
     for _ in 0..SCRIPTS / 4 {
         let (_, script) = random_script(&mut random);
+        converse(&script);
+        let (_, script) = random_script_with_files(&mut random);
         converse(&script);
     }
 }
@@ -190,6 +258,11 @@ fn nothing_is_answered_before_a_line_ends() {
         ("add E,0,NU", ""),
         ("M,1\ninf", "0\n"),
         ("er\n\n", "OK,0,1\nE,0,RAND,INT\n?\n"),
+        ("schemes S,A,000", ""),
+        ("00 ", ""),
+        ("\nadd E,0,NUM,1\ninfer", "0\n0\n"),
+        ("\nschemes", "OK,0,1\nE,0,A,INT\n"),
+        (" \n", "25\n"),
     ] {
         conversation.write(part.as_bytes());
         conversation.assert_comes(expected.as_bytes());
@@ -207,6 +280,10 @@ fn a_last_line_without_a_line_feed_is_answered_at_the_end() {
         ("take-back", "0\n"),
         ("redeclare 0 0", "5\n"),
         ("infe", "?\n"),
+        ("schemes", "?\n"),
+        ("schemes ", "25\n"),
+        ("schemes S,A,00000", "0\n"),
+        ("schemes S,A,10000 S,B,01000", "26\n"),
     ] {
         let mut conversation = Conversation::start();
         conversation.write(b"add E,0,NUM,1\n");
@@ -220,11 +297,16 @@ fn a_last_line_without_a_line_feed_is_answered_at_the_end() {
 #[test]
 fn lines_of_each_length_are_answered() {
     let mut random = Random::seeded(4);
-    let lines: Vec<String> = ["add E,0,NUM,1", "redeclare 0 7", "take-back", "infer", ""]
-        .iter()
-        .flat_map(|front| (0..200).map(move |more| format!("{front}{}", "1".repeat(more))))
+    let longest = String::from_utf8(schemes_command(LONGEST_FILE.as_bytes())).unwrap();
+    let fronts = ["add E,0,NUM,1", "redeclare 0 7", "take-back", "infer", "", "schemes "];
+    let ones = fronts.iter().flat_map(|front| (0..200).map(move |more| (*front, "1", more)));
+    let scheme = |(front, byte)| (0..20).map(move |more| (front, byte, more));
+    let files = [(&longest[..], " "), (&longest, "1"), (longest.trim_end(), " "), ("schemes", " ")];
+    let lines: Vec<String> = ones
+        .chain(files.into_iter().flat_map(scheme))
+        .map(|(front, byte, more)| format!("{front}{}", byte.repeat(more)))
         .collect();
-    let script = lines.join("\n").into_bytes();
+    let script = lines.join("\ninfer\n").into_bytes();
     converse(&script);
     for _ in 0..20 {
         assert_answers("random pieces", &script, &random_pieces(&mut random, &script));
@@ -234,12 +316,15 @@ fn lines_of_each_length_are_answered() {
 #[test]
 fn lines_of_a_million_bytes_are_answered() {
     let million = |byte| vec![byte; 1_000_000];
-    let long: [Vec<u8>; 6] = [
+    let long: [Vec<u8>; 9] = [
         [b"add ".to_vec(), million(b'1')].concat(),
         [b"add E,0,NUM,1".to_vec(), million(b'1')].concat(),
         [b"redeclare 0 ".to_vec(), million(b'0')].concat(),
         [b"infer".to_vec(), million(b' ')].concat(),
         [b"take-back".to_vec(), million(b'\r')].concat(),
+        [b"schemes ".to_vec(), million(b' ')].concat(),
+        [b"schemes S,A,00000".to_vec(), million(b' ')].concat(),
+        [schemes_command(LONGEST_FILE.as_bytes()), million(b'S')].concat(),
         million(0),
     ];
     let script = [&long.join(&b"\nadd E,0,NUM,1\ninfer\ntake-back\n"[..])[..], b"\ninfer"].concat();
@@ -256,7 +341,8 @@ fn lines_of_a_million_bytes_are_answered() {
 
 #[test]
 fn scripts_of_many_lines_are_answered() {
-    for lines in ["\n", "infer\n", "add E,0,NUM,1\ninfer\ntake-back\n"] {
+    let schemes = "schemes S,A,00000\nadd E,0,NUM,1\nschemes S,A,10000 S,B,01000\n";
+    for lines in ["\n", "infer\n", "add E,0,NUM,1\ninfer\ntake-back\n", schemes] {
         let script = lines.repeat(100_000).into_bytes();
         assert_answers("many lines", &script, &pieces(&script, WHOLE));
     }
@@ -269,6 +355,8 @@ fn conversations_do_not_disturb_each_other() {
     conversations[0].assert_comes(b"0\n");
     conversations[1].write(b"infer\n");
     conversations[1].assert_comes(b"NO,10,0\n");
+    conversations[1].write(b"schemes S,A,00000\n");
+    conversations[1].assert_comes(b"0\n");
     conversations[0].write(b"infer\n");
     conversations[0].assert_comes(b"OK,0,1\nE,0,RAND,INT\n");
     conversations.into_iter().for_each(|conversation| conversation.assert_ends(b""));

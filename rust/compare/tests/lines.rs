@@ -166,7 +166,7 @@ fn each_spelling_of_each_word_is_read_alike() {
     let (mut tally, mut words) = (Tally::default(), WordCounts::default());
     for form in well_formed::ALL {
         for (place, word) in form.words() {
-            for spelling in spellings(word) {
+            for spelling in spellings(&word) {
                 let line = line_with_field(&form, place, &spelling);
                 assert_ne!(tally.compare(&line), [0; 6], "for {}", line.escape_ascii());
                 words.take(&line);
@@ -181,7 +181,7 @@ fn each_byte_of_each_word_is_read_alike() {
     let (mut tally, mut words) = (Tally::default(), WordCounts::default());
     for form in well_formed::ALL {
         for (place, word) in form.words() {
-            for spelling in [word.to_string(), word.to_ascii_lowercase()] {
+            for spelling in [word.clone(), word.to_ascii_lowercase()] {
                 for position in 0..word.len() {
                     for byte in 0..=255 {
                         let mut field = spelling.as_bytes().to_vec();

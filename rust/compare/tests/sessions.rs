@@ -1,15 +1,14 @@
 //! The entry for scripts, and the same through the layer that lends the table, answer as the reference does.
 
-use compare::buffers::{
-    assert_bytes, assert_same, filled_buffer, inner, random_buffer, shown, MARGIN,
-};
+use compare::answers::{asked, assert_answers, assert_written, number, word, Room, ENTRIES};
+use compare::buffers::{assert_bytes, shown};
+use compare::placement_session;
 use compare::sessions::{adding, random_script, Kind};
 use compare::words::WordCounts;
-use compare::{placement_session, session_lent};
 use second::counts::Counts;
 use second::generate::{deep, text_of_lines, LetterCase, NumberCounts, Place, Random};
 use second::place::lines;
-use second::session::{answer, session, written, Command};
+use second::session::{answer, session, Command};
 use second::to_try;
 use second::{SchemeTable, Table};
 use std::fs;
@@ -25,81 +24,6 @@ const OFTEN: [&str; 18] = [
     "infer 24", "? 0",
 ];
 const SELDOM: [&str; 3] = ["add 8", "redeclare 12", "take-back 9"];
-
-/// A function that answers scripts: the script and a buffer in, the length of all answers out.
-type Entry = fn(&[u8], &mut [u8]) -> usize;
-
-/// The functions that are compared with the reference.
-const ENTRIES: [(&str, Entry); 2] =
-    [("placement_session", placement_session), ("session_lent", session_lent)];
-
-/// How long a buffer for answers is.
-#[derive(Clone, Copy, Debug, PartialEq, Eq, PartialOrd, Ord)]
-enum Room {
-    Zero,
-    Shorter,
-    OneTooShort,
-    Exact,
-    Longer,
-}
-
-impl Room {
-    /// All kinds of length.
-    const ALL: [Room; 5] =
-        [Room::Zero, Room::Shorter, Room::OneTooShort, Room::Exact, Room::Longer];
-
-    /// A kind of length, mostly one that is long enough.
-    fn random(random: &mut Random) -> Room {
-        match random.below(4) {
-            0 => Room::ALL[random.below(Room::ALL.len())],
-            1 => Room::Longer,
-            _ => Room::Exact,
-        }
-    }
-
-    /// A length of this kind for answers of so many bytes, of which there are some.
-    fn length(self, random: &mut Random, answers: usize) -> usize {
-        match self {
-            Room::Zero => 0,
-            Room::Shorter => random.below(answers),
-            Room::OneTooShort => answers - 1,
-            Room::Exact => answers,
-            Room::Longer => random.between(answers + 1, answers + 100),
-        }
-    }
-}
-
-/// Asserts that both functions answer a script with these bytes, with a buffer of this length.
-fn assert_written(random: &mut Random, script: &[u8], answers: &[u8], length: usize) {
-    for (name, entry) in ENTRIES {
-        let mut expected = random_buffer(random, length);
-        let mut found = expected.clone();
-        written(answers, inner(&mut expected));
-        let returned = entry(script, inner(&mut found));
-        assert_eq!(returned, answers.len(), "for {name}, {}", shown(script));
-        assert_same(&found, &expected, || format!("{name}, {}", shown(script)));
-    }
-}
-
-/// Asserts that both functions answer a script with these bytes where there is just enough room.
-fn assert_answers(about: &str, script: &[u8], answers: &[u8]) {
-    for (name, entry) in ENTRIES {
-        for byte in [0, b'\n', 0xA5] {
-            let mut bytes = filled_buffer(byte, answers.len());
-            assert_eq!(entry(script, inner(&mut bytes)), answers.len(), "for {name}, {about}");
-            assert_bytes(inner(&mut bytes), answers, &format!("{name}, {about}"));
-            bytes.drain(MARGIN..MARGIN + answers.len());
-            assert!(bytes.iter().all(|&other| other == byte), "for {name}, {about}");
-        }
-    }
-}
-
-/// The answers to a script, by one call that asks for their length and one that has room for them.
-fn asked(entry: Entry, script: &[u8]) -> Vec<u8> {
-    let mut answers = vec![0; entry(script, &mut [])];
-    assert_eq!(entry(script, &mut answers), answers.len());
-    answers
-}
 
 /// What was accepted since the last infer of a closed program.
 #[derive(Default)]
@@ -269,29 +193,6 @@ impl Tally {
         }
         self.numbers.take(&table);
         answers
-    }
-}
-
-/// The first word of a command; `?` for other lines.
-fn word(line: &[u8]) -> &'static str {
-    match Command::read(line) {
-        Some(Command::Add(_)) => "add",
-        Some(Command::Redeclare(..)) => "redeclare",
-        Some(Command::TakeBack) => "take-back",
-        Some(Command::Infer) => "infer",
-        Some(Command::Schemes(_)) => "schemes",
-        None => "?",
-    }
-}
-
-/// The number that an answer holds; 0 for a report and for `?`.
-fn number(answer: &[u8]) -> u32 {
-    let text = String::from_utf8(answer.to_vec()).unwrap();
-    let fields: Vec<&str> = text.trim_end().split(',').collect();
-    match fields[..] {
-        ["NO", number, _] => number.parse().unwrap(),
-        [number] => number.parse().unwrap_or(0),
-        _ => 0,
     }
 }
 

@@ -1,25 +1,22 @@
 //! The C entry and the reference solver give the same number and the same bytes for the same text.
 
-use compare::buffers::{assert_same, filled_buffer, inner, random_buffer, shown, MARGIN};
+use compare::buffers::{filled_buffer, inner, shown, MARGIN};
 use compare::calls::filling_lines;
 use compare::placement_report;
-use compare::slowest::Slowest;
-use compare::texts::{closed_text, large_texts, random_text, Kind};
+use compare::questions::{assert_answer, assert_answers, number_of, Question, Room, Tally};
+use compare::texts::{closed_text, filled_table, large_texts, random_text, Kind};
 use compare::words::WordCounts;
 use second::counts::Counts;
-use second::entry;
 use second::generate::{
     chain, deep, doubling, possible_words, text_of_lines, text_with_floors, Damage, Floors,
     LetterCase, NumberCounts, Partner, Place, Random,
 };
 use second::operation::Operation;
 use second::place::lines;
-use second::qualifier::Qualifier;
 use second::report::LONGEST_REPORT;
 use second::rows::TypeRow;
 use second::to_try;
 use second::{SchemeTable, Table};
-use std::time::Instant;
 
 /// How many texts of all kinds are compared.
 const TEXTS: usize = 70_000;
@@ -31,160 +28,13 @@ const SPECIAL_TABLES: usize = 2_000;
 /// The answers to closed programs: accepted, or the number of a refusal.
 const VERDICTS: [u32; 5] = [0, 21, 22, 23, 24];
 
-/// How long a report buffer is.
-#[derive(Clone, Copy, Debug, PartialEq, Eq, PartialOrd, Ord)]
-enum Room {
-    Zero,
-    One,
-    Shorter,
-    OneTooShort,
-    Exact,
-    Longer,
-}
-
-impl Room {
-    /// All kinds of length.
-    const ALL: [Room; 6] =
-        [Room::Zero, Room::One, Room::Shorter, Room::OneTooShort, Room::Exact, Room::Longer];
-
-    /// A kind of length, mostly one that is long enough.
-    fn random(random: &mut Random) -> Room {
-        match random.below(4) {
-            0 => Room::ALL[random.below(4)],
-            1 => Room::Longer,
-            _ => Room::Exact,
-        }
-    }
-
-    /// A length of this kind.
-    fn length(self, random: &mut Random) -> usize {
-        match self {
-            Room::Zero => 0,
-            Room::One => 1,
-            Room::Shorter => random.between(2, LONGEST_REPORT - 2),
-            Room::OneTooShort => LONGEST_REPORT - 1,
-            Room::Exact => LONGEST_REPORT,
-            Room::Longer => random.between(LONGEST_REPORT + 1, LONGEST_REPORT + 1_000),
-        }
-    }
-}
-
-/// What occurred in many comparisons.
-#[derive(Default)]
-struct Tally {
-    /// 0 for accepted, otherwise the refusal's number.
-    answers: Counts<u32>,
-    /// The lines of refused adds, the rows of programs without a typing, and the parameters of missed floors.
-    lines: Counts<u32>,
-    rows: Counts<u32>,
-    parameters: Counts<u32>,
-    rooms: Counts<Room>,
-    /// The lines of reports without their own numbers, as `P,AH,INT`.
-    slots: Counts<String>,
-    slowest: Slowest,
-}
-
-impl Tally {
-    /// Compares the C entry with the reference on a text and a buffer with random bytes; returns the answer.
-    fn compare(&mut self, random: &mut Random, about: &str, text: &[u8], room: Room) -> u32 {
-        let length = room.length(random);
-        let mut expected = random_buffer(random, length);
-        let mut found = expected.clone();
-        let number = entry(text, inner(&mut expected));
-        let start = Instant::now();
-        let returned = placement_report(text, inner(&mut found));
-        let time = start.elapsed();
-        assert_eq!(returned, number, "for {about}, {}", shown(text));
-        assert_same(&found, &expected, || format!("{about}, {}", shown(text)));
-        self.slowest.take(text, inner(&mut found), about, time);
-        self.rooms.add(room);
-        self.count(number, inner(&mut expected));
-        number
-    }
-
-    /// Counts what an answer holds.
-    fn count(&mut self, returned: u32, buffer: &[u8]) {
-        let (number, place) = (returned / 1_000, returned % 1_000);
-        match number {
-            1..=8 => self.lines.add(place),
-            21..=23 => self.rows.add(place),
-            24 => self.parameters.add(place),
-            10 | 11 => {}
-            _ => {
-                let report = &buffer[..(returned - 100_000) as usize];
-                slots(report).for_each(|slot| self.slots.add(slot));
-                self.answers.add(0);
-                return;
-            }
-        }
-        self.answers.add(number);
-    }
-
-    /// Asserts that each word and each shape was reported so often.
-    fn assert_each_word(&self, fewest: usize) {
-        let words = Qualifier::ALL.map(Qualifier::word);
-        self.slots.assert_each(words.map(|word| format!("G,{word}")), fewest);
-        for shape in ["INT", "ANY", "ARROW"] {
-            self.slots.assert_each(words.map(|word| format!("P,{word},{shape}")), fewest);
-            self.slots.assert_each(words.map(|word| format!("E,{word},{shape}")), fewest);
-        }
-    }
-
-    /// Prints the counts for those who want to see them, and the slowest call for all.
-    fn finish(&self, inputs: &str) {
-        println!("{:?}", self.answers.0);
-        println!("{:?}", self.rooms.0);
-        println!("{:?}", self.slots.0);
-        self.slowest.assert_within_limit(inputs);
-    }
-}
-
-/// The lines of a report after the first, without their own numbers.
-fn slots(report: &[u8]) -> impl Iterator<Item = String> {
-    let text = String::from_utf8(report.to_vec()).unwrap();
-    let lines: Vec<String> = text.lines().skip(1).map(str::to_string).collect();
-    lines.into_iter().map(|line| {
-        let mut fields: Vec<&str> = line.split(',').collect();
-        fields.remove(1);
-        fields.join(",")
-    })
-}
-
-/// The table that a text fills; each of its lines must be accepted.
-fn table(text: &[u8]) -> Table {
-    let mut table = Table::fresh();
-    for line in lines(text) {
-        assert_eq!(table.add(line), 0, "for the line {}", line.escape_ascii());
-    }
-    table
-}
-
-/// Asserts what the C entry returns and writes with a buffer of this length, whatever stands there before.
-fn assert_answer(about: &str, text: &[u8], length: usize, number: u32, report: &[u8]) {
-    for byte in [0, b'\n', 0xA5] {
-        let mut bytes = filled_buffer(byte, length);
-        assert_eq!(placement_report(text, inner(&mut bytes)), number, "for {about}");
-        let written = String::from_utf8_lossy(&inner(&mut bytes)[..report.len()]);
-        assert_eq!(written, String::from_utf8_lossy(report), "for {about}");
-        bytes.drain(MARGIN..MARGIN + report.len());
-        assert!(bytes.iter().all(|&other| other == byte), "for {about}");
-    }
-}
-
-/// Asserts what the C entry returns and writes for a text with buffers that are long enough.
-fn assert_answers(about: &str, text: &[u8], number: u32, report: &[u8]) {
-    for length in [LONGEST_REPORT, LONGEST_REPORT + 1, 2 * LONGEST_REPORT] {
-        assert_answer(about, text, length, number, report);
-    }
-}
-
 #[test]
 fn program_a_has_its_report_in_full() {
     let program = b"T,0,ANY\nP,0,g0,0\nE,0,VAR,0\nE,1,VAR,0\nE,2,OP,ADD,0,1\nE,3,LAM,0,2\n";
     let report = b"OK,1,4\nG,0,AH\nP,0,AH,INT\nE,0,AH,INT\nE,1,AH,INT\nE,2,AH,INT\n\
                    E,3,PLAIN,ARROW\n";
-    assert_answers("program A", program, 100_074, report);
-    let unended = program.strip_suffix(b"\n").unwrap();
+    assert_answers("program A", Question::of_six(program), 100_074, report);
+    let unended = Question::of_six(program.strip_suffix(b"\n").unwrap());
     assert_answers("program A without its last line feed", unended, 100_074, report);
 }
 
@@ -192,7 +42,8 @@ fn program_a_has_its_report_in_full() {
 fn each_program_to_try_is_answered_as_the_documents_say() {
     for program in to_try::all() {
         let report = program.report().unwrap_or(b"");
-        assert_answers(program.about, &program.text, program.returns, report);
+        let question = Question::of_six(&program.text);
+        assert_answers(program.about, question, program.returns, report);
     }
 }
 
@@ -202,7 +53,7 @@ fn a_short_buffer_is_refused_before_the_text_is_looked_at() {
     texts.extend([b"\n".to_vec(), b"none of the forms".to_vec()]);
     for text in texts {
         for length in [0, 1, 2, 6_278, 6_279] {
-            assert_answer("a short buffer", &text, length, 11_000, b"");
+            assert_answer("a short buffer", Question::of_six(&text), length, 11_000, b"");
         }
     }
 }
@@ -210,13 +61,15 @@ fn a_short_buffer_is_refused_before_the_text_is_looked_at() {
 #[test]
 fn each_line_of_a_text_is_named() {
     let lines: Vec<String> = filling_lines().chain(["E,256,NUM,1".to_string()]).collect();
-    assert_answers("a full table and a row", lines.join("\n").as_bytes(), 3_385, b"");
+    let full = lines.join("\n");
+    assert_answers("a full table and a row", Question::of_six(full.as_bytes()), 3_385, b"");
     for line in 1..=385 {
         let mut damaged = lines.clone();
         damaged[line - 1] = String::new();
         damaged.push("T,0,INT".to_string());
         let text = damaged.join("\n");
-        assert_answers("an empty line", text.as_bytes(), 1_000 + line as u32, b"");
+        let question = Question::of_six(text.as_bytes());
+        assert_answers("an empty line", question, 1_000 + line as u32, b"");
     }
 }
 
@@ -257,8 +110,9 @@ fn each_parameter_of_a_missed_floor_is_named() {
             lines += &format!(" P,{own},{declared} E,{},LAM,{own},{own}", own + 1);
         }
         let text = text_of_lines(&lines);
-        assert_answers("a missed floor", &text, 24_000 + missed as u32, b"");
-        assert_answer("a short buffer", &text, LONGEST_REPORT - 1, 11_000, b"");
+        let question = Question::of_six(&text);
+        assert_answers("a missed floor", question, 24_000 + missed as u32, b"");
+        assert_answer("a short buffer", question, LONGEST_REPORT - 1, 11_000, b"");
     }
 }
 
@@ -271,10 +125,11 @@ fn texts_of_each_kind_are_answered_alike() {
     for _ in 0..TEXTS {
         let (kind, text) = random_text(&mut random);
         let room = Room::random(&mut random);
-        let returned = tally.compare(&mut random, &format!("{kind:?}"), &text, room);
+        let about = format!("{kind:?}");
+        let returned = tally.compare(&mut random, &about, Question::of_six(&text), room);
         kinds.add(kind);
         if returned != 11_000 {
-            by_kind.add((kind, if returned > 100_000 { 0 } else { returned / 1_000 }));
+            by_kind.add((kind, number_of(returned)));
             features_of(&text).for_each(|feature| features.add(feature));
         }
     }
@@ -300,7 +155,7 @@ fn texts_of_each_kind_are_answered_alike() {
     assert!(tally.rows.0.len() > 150, "{} rows were named only", tally.rows.0.len());
     let parameters = tally.parameters.0.len();
     assert!(parameters > 40, "{parameters} parameters were named only");
-    tally.assert_each_word(TEXTS / 7_000);
+    tally.assert_each_word(SchemeTable::six().qualifiers(), TEXTS / 7_000);
     tally.finish(&format!("{TEXTS} texts"));
 }
 
@@ -317,7 +172,8 @@ fn the_case_of_words_changes_no_answer() {
         for case in LetterCase::ALL {
             let written = case.of_text(&mut random, &text);
             assert!(answer(&written) == expected, "for {about}, {}", shown(&written));
-            let returned = tally.compare(&mut random, &about, &written, Room::Exact);
+            let question = Question::of_six(&written);
+            let returned = tally.compare(&mut random, &about, question, Room::Exact);
             assert_eq!(returned, expected.0, "for {about}, {}", shown(&written));
             changed += usize::from(written != capitals);
         }
@@ -363,13 +219,13 @@ fn tables_of_each_size_are_answered_alike() {
     let (mut numbers, mut words) = (NumberCounts::default(), WordCounts::default());
     for _ in 0..TABLES {
         let text = closed_text(&mut random);
-        let table = table(&text);
+        let table = filled_table(Table::fresh(), &text);
         assert!(table.closed());
         sizes.add(table.terms.len());
         floors.add(Floors::of(&table));
         numbers.take(&table);
         words.take_text(&text);
-        tally.compare(&mut random, "a closed table", &text, Room::Exact);
+        tally.compare(&mut random, "a closed table", Question::of_six(&text), Room::Exact);
     }
     println!("{:?}\n{numbers:?}\n{words:?}", floors.0);
     sizes.assert_each(1..=Table::TERM_LIMIT, 5);
@@ -377,9 +233,9 @@ fn tables_of_each_size_are_answered_alike() {
     floors.assert_each([Floors::Plain, Floors::NoTyping, Floors::Met], TABLES / 8);
     assert_eq!(tally.answers.0.keys().copied().collect::<Vec<u32>>(), VERDICTS);
     tally.answers.assert_each(VERDICTS, TABLES / 20);
-    tally.assert_each_word(TABLES / 3_000);
-    numbers.places.assert_each(Place::all(), TABLES / 60);
     let six = SchemeTable::six();
+    tally.assert_each_word(six.qualifiers(), TABLES / 3_000);
+    numbers.places.assert_each(Place::all(), TABLES / 60);
     numbers.partners.assert_each(Partner::all(six), TABLES / 200);
     numbers.words.assert_each(six.words(), TABLES / 20);
     numbers.operand_words.assert_each(possible_words(six), TABLES / 600);
@@ -395,12 +251,12 @@ fn tables_with_deep_sharing_are_answered_alike() {
     for _ in 0..SPECIAL_TABLES {
         let text = doubling(&mut random);
         let text = text_with_floors(&mut random, &text);
-        let table = table(&text);
+        let table = filled_table(Table::fresh(), &text);
         let types = &table.types;
         assert_eq!(types.len(), Table::TYPE_LIMIT);
         assert!((1..types.len()).all(|row| uses_twice(&types[row], row - 1)));
         numbers.take(&table);
-        tally.compare(&mut random, "deep sharing", &text, Room::Longer);
+        tally.compare(&mut random, "deep sharing", Question::of_six(&text), Room::Longer);
     }
     numbers.places.assert_each(Place::operands(), SPECIAL_TABLES / 40);
     tally.answers.assert_each(VERDICTS, SPECIAL_TABLES / 50);
@@ -420,10 +276,10 @@ fn chains_of_256_rows_are_answered_alike() {
     for _ in 0..SPECIAL_TABLES {
         let text = chain(&mut random);
         let text = text_with_floors(&mut random, &text);
-        let table = table(&text);
+        let table = filled_table(Table::fresh(), &text);
         assert_eq!((table.terms.len(), table.closed()), (Table::TERM_LIMIT, true));
         numbers.take(&table);
-        tally.compare(&mut random, "a chain of 256 rows", &text, Room::Exact);
+        tally.compare(&mut random, "a chain of 256 rows", Question::of_six(&text), Room::Exact);
     }
     let arithmetic = [Operation::Add, Operation::Mul];
     let operands = arithmetic.map(Place::Left).into_iter().chain(arithmetic.map(Place::Right));
@@ -442,7 +298,7 @@ fn the_worst_texts_are_answered_alike_and_in_time() {
     texts.extend(large_texts());
     for (name, text) in texts {
         for room in Room::ALL {
-            tally.compare(&mut random, name, &text, room);
+            tally.compare(&mut random, name, Question::of_six(&text), room);
         }
     }
     tally.answers.assert_each([0, 1, 11, 21], 10);

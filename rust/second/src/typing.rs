@@ -46,6 +46,12 @@ pub fn judge(table: &Table) -> Result<Judgement, NoTyping> {
     }
 }
 
+/// The same where "at or below" is dropped; `None` without a typing.
+pub fn judge_without_bounds(table: &Table) -> Option<Judgement> {
+    let inference = solve(table, table.terms.len(), Strength::Equalities);
+    inference.ok().map(|inference| inference.judgement())
+}
+
 /// The refusal's number for the least row up to which the rows have no typing.
 fn refusal_number(table: &Table, row: usize) -> u32 {
     let has_typing = |strength| solve(table, row + 1, strength).is_ok();

@@ -91,15 +91,22 @@ impl SchemeFile {
 
     /// A file of any kind; half of them are accepted.
     pub fn random(random: &mut Random) -> SchemeFile {
+        match random.one_in(2) {
+            true => SchemeFile::with(random, None, OrderFaults::NONE),
+            false => SchemeFile::refused(random),
+        }
+    }
+
+    /// A refused file of any kind; half of them have faults in their lines.
+    pub fn refused(random: &mut Random) -> SchemeFile {
         let (faults, orders) = (LineFault::all(), OrderFaults::all());
         let fault = faults[random.below(faults.len())];
         // The first is that nothing is wrong.
         let order = orders[random.between(1, orders.len() - 1)];
-        match random.below(8) {
+        match random.below(4) {
             0 => SchemeFile::with(random, Some(fault), OrderFaults::NONE),
             1 => SchemeFile::with(random, Some(fault), order),
-            2 | 3 => SchemeFile::with(random, None, order),
-            _ => SchemeFile::with(random, None, OrderFaults::NONE),
+            _ => SchemeFile::with(random, None, order),
         }
     }
 

@@ -6,19 +6,9 @@ use crate::search::{Found, Rules, Searched};
 use crate::tables::{applying_table, chained_table, closed_table, tiny_table, Limits};
 use crate::Make;
 use second::counts::Counts;
-use second::generate::{accepted_file_of, Place, Random, SchemeProperty};
-use second::rows::Term;
+use second::generate::{accepted_file_of, Place, PlainByBounds, Random, SchemeProperty};
 use second::schemes::{PLAIN, SIX_FILE};
 use second::{SchemeTable, Table};
-
-/// Why a variable is PLAIN in every typing though no constant makes it so.
-#[derive(Clone, Copy, Debug, PartialEq, Eq, PartialOrd, Ord)]
-enum PlainByBounds {
-    /// Some operation of the table is supported by no scheme.
-    Unsupported,
-    /// Each operation of the table has a scheme for its highest, and only PLAIN is below several of them.
-    Meet,
-}
 
 /// What was seen of many tables under many scheme files.
 #[derive(Debug, Default)]
@@ -42,9 +32,9 @@ impl Seen {
         }
         if has_typing {
             self.sizes.add(schemes.schemes().count());
-            if has_plain_by_bounds(searched, found) {
-                self.plain_by_bounds.add(PlainByBounds::of(searched.table));
-            }
+            let reason = PlainByBounds::of(searched.table);
+            assert_eq!(reason.is_some(), has_plain_by_bounds(searched, found));
+            reason.into_iter().for_each(|reason| self.plain_by_bounds.add(reason));
         }
     }
 
@@ -55,20 +45,6 @@ impl Seen {
             self.properties.assert_each(seen, fewest);
         }
         self.sizes.assert_each(1..=8, fewest);
-    }
-}
-
-impl PlainByBounds {
-    /// The reason in a table that has such a variable.
-    fn of(table: &Table) -> PlainByBounds {
-        let is_unsupported = |term: &Term| match *term {
-            Term::Operate { operation, .. } => table.schemes().highest(operation) == PLAIN,
-            _ => false,
-        };
-        match table.terms.iter().any(is_unsupported) {
-            true => PlainByBounds::Unsupported,
-            false => PlainByBounds::Meet,
-        }
     }
 }
 
