@@ -5,6 +5,7 @@ use crate::slowest::Slowest;
 use crate::{placement_report, placement_report_under};
 use second::counts::Counts;
 use second::generate::Random;
+use second::place::number_of;
 use second::report::LONGEST_REPORT;
 use second::schemes::{Code, SIX_FILE};
 use second::{entry, entry_under, SchemeTable};
@@ -206,14 +207,6 @@ pub fn assert_answer(about: &str, question: Question, length: usize, number: u32
 pub fn assert_answers(about: &str, question: Question, number: u32, report: &[u8]) {
     for length in [LONGEST_REPORT, LONGEST_REPORT + 1, 2 * LONGEST_REPORT] {
         assert_answer(about, question, length, number, report);
-    }
-}
-
-/// The refusal's number in what a C entry returned, 0 if it accepted.
-pub fn number_of(returned: u32) -> u32 {
-    match returned {
-        100_000.. => 0,
-        _ => returned / 1_000,
     }
 }
 

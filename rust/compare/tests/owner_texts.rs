@@ -1,7 +1,7 @@
 //! Under scheme files, the C entry and the reference solver give the same number and the same bytes for the same text.
 
 use compare::buffers::{filled_buffer, inner, shown};
-use compare::questions::{assert_answer, assert_answers, number_of, Question, Room, Tally};
+use compare::questions::{assert_answer, assert_answers, Question, Room, Tally};
 use compare::sessions::LONGEST_FILE;
 use compare::texts::{
     closed_text_under, filled_table, large_texts, random_text, random_text_under, Kind,
@@ -14,6 +14,7 @@ use second::generate::{
     Random, SchemeFile, SchemeProperty,
 };
 use second::operation::Operation;
+use second::place::number_of;
 use second::report::LONGEST_REPORT;
 use second::schemes::SIX_FILE;
 use second::{entry, SchemeTable, Table};

@@ -3,7 +3,7 @@
 use compare::buffers::{filled_buffer, inner, shown, MARGIN};
 use compare::calls::filling_lines;
 use compare::placement_report;
-use compare::questions::{assert_answer, assert_answers, number_of, Question, Room, Tally};
+use compare::questions::{assert_answer, assert_answers, Question, Room, Tally};
 use compare::texts::{closed_text, filled_table, large_texts, random_text, Kind};
 use compare::words::WordCounts;
 use second::counts::Counts;
@@ -12,7 +12,7 @@ use second::generate::{
     LetterCase, NumberCounts, Partner, Place, Random,
 };
 use second::operation::Operation;
-use second::place::lines;
+use second::place::{lines, number_of};
 use second::report::LONGEST_REPORT;
 use second::rows::TypeRow;
 use second::to_try;

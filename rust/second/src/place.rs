@@ -44,6 +44,14 @@ pub fn entry_under(file: &[u8], text: &[u8], buffer: &mut [u8]) -> u32 {
     }
 }
 
+/// The refusal's number in what an entry returned, 0 if it accepted.
+pub fn number_of(returned: u32) -> u32 {
+    match returned {
+        100_000.. => 0,
+        _ => returned / 1_000,
+    }
+}
+
 /// What an entry returns for a text on a fresh table and a buffer that is long enough.
 fn entry_on(fresh: Table, text: &[u8], buffer: &mut [u8]) -> u32 {
     let table = match filled(fresh, text) {

@@ -1,5 +1,8 @@
 //! The generator gives a good mix of inputs, and random calls keep the table's promises.
 
+mod common;
+
+use common::{make, Infers};
 use second::counts::Counts;
 use second::generate::{
     any_bytes, call_list, chain, changed_line, closed_program, damaged_line, damaged_text,
@@ -9,13 +12,12 @@ use second::generate::{
 };
 use second::line::read;
 use second::operation::Operation;
-use second::place::{inferred, lines};
+use second::place::{lines, number_of};
 use second::qualifier::{at_or_below, Qualifier};
 use second::rows::{Entry, TypeRow};
 use second::schemes::{Code, PLAIN};
 use second::typing::{judge, Shape};
 use second::{entry, place, Answer, SchemeTable, Table};
-use std::collections::BTreeMap;
 
 /// The answers to closed programs: accepted, or the number of a refusal.
 const VERDICTS: [u32; 5] = [0, 21, 22, 23, 24];
@@ -91,47 +93,48 @@ fn all_lines_are_accepted_and_all_programs_closed() {
 
 #[test]
 fn all_verdicts_occur_often() {
-    let mut counts = BTreeMap::new();
+    let mut counts = Counts::default();
     for program in programs(22, 2000) {
-        *counts.entry(number(&program.table())).or_insert(0) += 1;
+        counts.add(number(&program.table()));
     }
-    assert!(counts.keys().eq(&VERDICTS), "{counts:?}");
-    assert!(counts[&0] > 600 && counts[&24] > 200, "{counts:?}");
-    assert!(counts.values().all(|&count| count > 100), "{counts:?}");
+    assert!(counts.0.keys().eq(&VERDICTS), "{counts:?}");
+    counts.assert_each([0], 601);
+    counts.assert_each([24], 201);
+    counts.assert_each(VERDICTS, 101);
 }
 
 #[test]
 fn floors_are_met_and_missed_often() {
-    let (mut counts, mut named, mut explicit) = (BTreeMap::new(), BTreeMap::new(), 0);
+    let (mut counts, mut named, mut explicit) = (Counts::default(), Counts::default(), 0);
     for program in programs(37, 2000) {
         let table = program.table();
         let (floors, Answer { number, row, .. }) =
             (Floors::of(&table), table.infer(&mut [0; 6280]));
-        *counts.entry(floors).or_insert(0) += 1;
+        counts.add(floors);
         match floors {
             Floors::Plain => assert_ne!(number, 24),
             Floors::NoTyping => assert!((21..=23).contains(&number)),
             Floors::Met => assert_eq!(number, 0),
             Floors::OneMissed | Floors::SeveralMissed => {
                 assert_eq!(number, 24);
-                *named.entry(row).or_insert(0) += 1;
+                named.add(row);
             }
         }
         let parameters = program.lines.iter().filter(|line| line.starts_with('P'));
         let is_explicit = |line: &&String| line.to_ascii_uppercase().ends_with(",PLAIN");
         explicit += parameters.filter(is_explicit).count();
     }
-    assert!(counts.keys().eq(&Floors::ALL), "{counts:?}");
-    assert!(counts[&Floors::Plain] > 500 && counts[&Floors::Met] > 300, "{counts:?}");
-    assert!(counts[&Floors::NoTyping] > 300, "{counts:?}");
-    assert!(counts[&Floors::OneMissed] > 50 && counts[&Floors::SeveralMissed] > 100, "{counts:?}");
-    assert!(named.len() > 20, "{named:?}");
+    counts.assert_each([Floors::Plain], 501);
+    counts.assert_each([Floors::Met, Floors::NoTyping], 301);
+    counts.assert_each([Floors::SeveralMissed], 101);
+    counts.assert_each([Floors::OneMissed], 51);
+    assert!(named.0.len() > 20, "{named:?}");
     assert!(explicit > 500, "{explicit} floors are written as PLAIN");
 }
 
 #[test]
 fn each_floor_stands_under_each_word() {
-    let (mut met, mut missed) = (BTreeMap::new(), BTreeMap::new());
+    let (mut met, mut missed) = (Counts::default(), Counts::default());
     for program in programs(38, 2000) {
         let table = program.table();
         let Ok(judgement) = judge(&table) else {
@@ -140,14 +143,13 @@ fn each_floor_stands_under_each_word() {
         let accepted = number(&table) == 0;
         for (parameter, slot) in table.params.iter().zip(&judgement.params) {
             let counts = if accepted { &mut met } else { &mut missed };
-            *counts.entry((parameter.floor, slot.word)).or_insert(0) += 1;
+            counts.add((parameter.floor, slot.word));
         }
     }
     for floor in Qualifier::ALL {
         for word in Qualifier::ALL {
             let counts = if at_or_below(floor, word) { &met } else { &missed };
-            let count = counts.get(&(floor.code(), word.code())).copied().unwrap_or(0);
-            assert!(count > 5, "{floor:?} stands under {word:?} {count} times only");
+            counts.assert_each([(floor.code(), word.code())], 6);
         }
     }
 }
@@ -169,26 +171,26 @@ fn floors_are_all_that_is_added_to_a_program() {
 #[test]
 fn programs_without_floors_have_no_24() {
     let mut random = Random::seeded(39);
-    let mut counts = BTreeMap::new();
+    let mut counts = Counts::default();
     for _ in 0..500 {
         let table = closed_program(&mut random, 60).table();
         assert_eq!(Floors::of(&table), Floors::Plain);
-        *counts.entry(number(&table)).or_insert(0) += 1;
+        counts.add(number(&table));
     }
-    assert!(counts.keys().eq(&VERDICTS[..4]), "{counts:?}");
+    assert!(counts.0.keys().eq(&VERDICTS[..4]), "{counts:?}");
 }
 
 #[test]
 fn all_verdicts_occur_in_large_programs() {
     let mut random = Random::seeded(23);
-    let (mut counts, mut full) = (BTreeMap::new(), 0);
+    let (mut counts, mut full) = (Counts::default(), 0);
     for _ in 0..400 {
         let table = program_with_floors(&mut random, 256).table();
         full += usize::from(table.terms.len() == 256);
-        *counts.entry(number(&table)).or_insert(0) += 1;
+        counts.add(number(&table));
     }
-    assert!(counts.keys().eq(&VERDICTS), "{counts:?}");
-    assert!(counts.values().all(|&count| count > 20), "{counts:?}");
+    assert!(counts.0.keys().eq(&VERDICTS), "{counts:?}");
+    counts.assert_each(VERDICTS, 21);
     assert!(full > 100, "{full} programs have 256 rows");
 }
 
@@ -204,7 +206,7 @@ fn every_size_occurs() {
 #[test]
 fn the_features_occur() {
     let (mut shared, mut arrows, mut redeclared, mut late, mut free) = (0, 0, 0, 0, 0);
-    let (mut words, mut rows) = (BTreeMap::new(), BTreeMap::new());
+    let (mut words, mut rows) = (Counts::default(), Counts::default());
     for program in programs(25, 1000) {
         let table = program.table();
         let uses = |row| table.params.iter().filter(|p| usize::from(p.type_row) == row).count();
@@ -218,16 +220,16 @@ fn the_features_occur() {
             Ok(judgement) => {
                 let slots = judgement.params.iter().chain(&judgement.terms);
                 free += usize::from(slots.clone().any(|slot| slot.shape == Shape::Any));
-                slots.for_each(|slot| *words.entry(slot.word).or_insert(0) += 1);
+                slots.for_each(|slot| words.add(slot.word));
             }
-            Err(refusal) => *rows.entry(refusal.row).or_insert(0) += 1,
+            Err(refusal) => rows.add(refusal.row),
         }
     }
     for count in [shared, arrows, redeclared, late, free] {
         assert!(count > 50, "{:?}", [shared, arrows, redeclared, late, free]);
     }
-    assert!(words.len() == 7 && words.values().all(|&count| count > 20), "{words:?}");
-    assert!(rows.len() > 50, "{rows:?}");
+    words.assert_each(SchemeTable::six().qualifiers(), 21);
+    assert!(rows.0.len() > 50, "{rows:?}");
 }
 
 #[test]
@@ -415,7 +417,7 @@ fn damaged_lines_are_read_or_not() {
 #[test]
 fn damaged_lines_of_parameters_have_wrong_floors() {
     let mut random = Random::seeded(43);
-    let mut wrong = BTreeMap::new();
+    let mut wrong = Counts::default();
     for line in ["P,0,g0,0", "P,1,AH,7,RAND"] {
         for _ in 0..2000 {
             let damaged = damaged_line(&mut random, line.as_bytes());
@@ -424,28 +426,27 @@ fn damaged_lines_of_parameters_have_wrong_floors() {
                 let declared: Vec<&str> = line.splitn(5, ',').take(4).collect();
                 if text == format!("{},{floor}", declared.join(",")) {
                     assert_eq!(read(&damaged), None, "for the line {text}");
-                    *wrong.entry(floor).or_insert(0) += 1;
+                    wrong.add(floor);
                 }
             }
         }
     }
-    assert!(wrong.len() == WRONG_FLOORS.len(), "{wrong:?}");
-    assert!(wrong.values().all(|&count| count > 10), "{wrong:?}");
+    wrong.assert_each(WRONG_FLOORS, 11);
 }
 
 #[test]
 fn changed_lines_of_parameters_stay_well_formed() {
     let mut random = Random::seeded(44);
-    let mut floors = BTreeMap::new();
+    let mut floors = Counts::default();
     for _ in 0..2000 {
         let changed = changed_line(&mut random, b"P,1,AH,7,DET");
         let Some(Entry::P(1, parameter)) = read(&changed) else {
             panic!("{} is not read", changed.escape_ascii());
         };
-        *floors.entry(parameter.floor).or_insert(0) += 1;
+        floors.add(parameter.floor);
         assert!(read(&changed_line(&mut random, b"P,1,AH,7")).is_some());
     }
-    assert!(floors.len() == 7 && floors.values().all(|&count| count > 50), "{floors:?}");
+    floors.assert_each(SchemeTable::six().qualifiers(), 51);
 }
 
 #[test]
@@ -486,17 +487,17 @@ fn each_damage_changes_a_text_in_its_way() {
 #[test]
 fn opened_programs_are_accepted_and_not_closed() {
     let mut random = Random::seeded(33);
-    let mut counts = BTreeMap::new();
+    let mut counts = Counts::default();
     for program in programs(34, 300) {
         for opening in Opening::ALL {
             let Some(lines) = opened(&mut random, &program, opening) else {
                 continue;
             };
-            *counts.entry(opening).or_insert(0) += 1;
+            counts.add(opening);
             assert_eq!(place(lines.join("\n").as_bytes()), b"NO,10,0\n", "for {lines:?}");
         }
     }
-    assert!(counts.len() == 4 && counts.values().all(|&count| count > 100), "{counts:?}");
+    counts.assert_each(Opening::ALL, 101);
 }
 
 #[test]
@@ -511,14 +512,13 @@ fn the_text_of_a_table_fills_it_again() {
 fn all_verdicts_occur_in_deep_and_long_programs() {
     for generate in [doubling, chain] {
         let mut random = Random::seeded(36);
-        let mut counts = BTreeMap::new();
+        let mut counts = Counts::default();
         for _ in 0..400 {
             let text = generate(&mut random);
             let returned = entry(&text_with_floors(&mut random, &text), &mut [0; 6280]);
-            let number = if returned > 100_000 { 0 } else { returned / 1_000 };
-            *counts.entry(number).or_insert(0) += 1;
+            counts.add(number_of(returned));
         }
-        assert!(counts.keys().eq(&VERDICTS), "{counts:?}");
+        assert!(counts.0.keys().eq(&VERDICTS), "{counts:?}");
     }
 }
 
@@ -535,7 +535,7 @@ fn entry_number(printed: &[u8]) -> u32 {
 #[test]
 fn the_entry_and_place_agree_on_damaged_texts() {
     let mut random = Random::seeded(28);
-    let mut counts = BTreeMap::new();
+    let mut counts = Counts::default();
     for program in programs(29, 1500) {
         let text = damaged_text(&mut random, &program.text());
         let printed = place(&text);
@@ -545,12 +545,9 @@ fn the_entry_and_place_agree_on_damaged_texts() {
         let written = if returned > 100_000 { &printed[..] } else { b"" };
         assert!(buffer.starts_with(written));
         assert!(buffer[written.len()..].iter().all(|&byte| byte == 9));
-        let number = if returned > 100_000 { 0 } else { returned / 1_000 };
-        *counts.entry(number).or_insert(0) += 1;
+        counts.add(number_of(returned));
     }
-    for number in [0, 1, 2, 4, 5, 6, 7, 8, 10, 21, 22, 23, 24] {
-        assert!(counts.contains_key(&number), "{number} does not occur: {counts:?}");
-    }
+    counts.assert_each([0, 1, 2, 4, 5, 6, 7, 8, 10, 21, 22, 23, 24], 1);
 }
 
 #[test]
@@ -565,68 +562,33 @@ fn any_bytes_are_refused_with_a_number() {
     }
 }
 
-/// Makes a call; gives its number and asserts that a refusal changes nothing.
-fn make(table: &mut Table, call: &Call) -> u32 {
-    let before = table.clone();
-    let number = match call {
-        Call::Add(line) => table.add(line),
-        Call::Redeclare(parameter, code) => table.redeclare(*parameter, *code),
-        Call::TakeBack => table.take_back(),
-        Call::Infer(length, fill) => {
-            let mut buffer = vec![*fill; *length];
-            let Answer { number, row, length } = table.infer(&mut buffer);
-            assert!(number == 0 || length == 0);
-            assert!(number > 20 || row == 0);
-            assert!(buffer[length as usize..].iter().all(|byte| byte == fill));
-            assert_eq!(*table, before);
-            number
-        }
-    };
-    assert!(number == 0 || *table == before);
-    number
-}
-
 #[test]
 fn random_calls_meet_every_number() {
     let mut random = Random::seeded(30);
-    let mut counts = BTreeMap::new();
+    let mut counts = Counts::default();
     for _ in 0..400 {
         let rows = random.between(1, 120);
         let mut table = Table::fresh();
         for call in call_list(&mut random, rows) {
-            *counts.entry(make(&mut table, &call)).or_insert(0) += 1;
+            counts.add(make(&mut table, &call));
         }
         assert!(table.types.len() <= 64 && table.params.len() <= 64 && table.terms.len() <= 256);
     }
-    for number in [0, 1, 2, 4, 5, 6, 7, 8, 10, 11, 12, 21, 22, 23] {
-        assert!(counts.contains_key(&number), "{number} does not occur: {counts:?}");
-    }
-    assert!(counts[&24] > 100, "{counts:?}");
+    counts.assert_each([0, 1, 2, 4, 5, 6, 7, 8, 10, 11, 12, 21, 22, 23], 1);
+    counts.assert_each([24], 101);
 }
 
 #[test]
 fn questions_are_accepted_and_often_change_the_answer() {
     let mut random = Random::seeded(31);
-    let (mut infers, mut changed) = (0, 0);
+    let mut infers = Infers::default();
     for _ in 0..400 {
         let rows = random.between(1, 60);
         let mut table = Table::fresh();
-        let mut before = None;
-        for call in what_if_list(&mut random, rows, 5) {
-            let number = make(&mut table, &call);
-            match call {
-                Call::Infer(..) => {
-                    let answer = inferred(&table);
-                    infers += 1;
-                    changed += usize::from(before.is_some_and(|before| before != answer));
-                    before = Some(answer);
-                }
-                _ => assert_eq!(number, 0, "for {call:?}"),
-            }
-        }
+        infers.take(&mut table, &what_if_list(&mut random, rows, 5));
         assert!(table.closed());
     }
-    assert!(infers >= 2_400 && changed > infers / 3, "{changed} of {infers} were changed only");
+    assert!(infers.made >= 2_400 && infers.changed > infers.made / 3, "{infers:?}");
 }
 
 /// How often a redeclaration alone makes a list of calls miss a floor that was met, and meet one that was missed.

@@ -2,7 +2,7 @@
 
 mod common;
 
-use common::text;
+use common::{make, text, Infers};
 use second::counts::Counts;
 use second::generate::{
     accepted_file, accepted_file_of, call_list, call_list_under, chain_under, changed_line_under,
@@ -11,7 +11,7 @@ use second::generate::{
     Program, Random, SchemeProperty,
 };
 use second::line::read_under;
-use second::place::{inferred, lines};
+use second::place::{inferred, lines, number_of};
 use second::rows::{Parameter, QualifiedRow, Term, TypeRow};
 use second::schemes::Code;
 use second::{entry, entry_under, Answer, SchemeTable, Table};
@@ -104,31 +104,11 @@ fn all_verdicts_occur_in_deep_and_long_programs() {
             let text = generate(&mut random, &schemes);
             let text = text_with_floors_under(&mut random, &schemes, &text);
             let returned = entry_under(&schemes.file(), &text, &mut [0; 6280]);
-            counts.add(if returned > 100_000 { 0 } else { returned / 1_000 });
+            counts.add(number_of(returned));
         }
         assert!(counts.0.keys().eq(&VERDICTS), "{counts:?}");
         counts.assert_each(VERDICTS, 10);
     }
-}
-
-/// Makes a call; gives its number and asserts that a refusal changes nothing, and that no call changes the scheme table.
-fn make(table: &mut Table, call: &Call) -> u32 {
-    let before = table.clone();
-    let number = match call {
-        Call::Add(line) => table.add(line),
-        Call::Redeclare(parameter, code) => table.redeclare(*parameter, *code),
-        Call::TakeBack => table.take_back(),
-        Call::Infer(length, fill) => {
-            let mut buffer = vec![*fill; *length];
-            let Answer { number, length, .. } = table.infer(&mut buffer);
-            assert!(buffer[length as usize..].iter().all(|byte| byte == fill));
-            assert_eq!(*table, before);
-            number
-        }
-    };
-    assert!(number == 0 || *table == before);
-    assert_eq!(table.schemes(), before.schemes());
-    number
 }
 
 #[test]
@@ -158,26 +138,14 @@ fn random_calls_meet_every_number() {
 #[test]
 fn questions_are_accepted_and_often_change_the_answer() {
     let mut random = Random::seeded(86);
-    let (mut infers, mut changed) = (0, 0);
+    let mut infers = Infers::default();
     for _ in 0..400 {
         let schemes = any_schemes(&mut random);
         let rows = random.between(1, 60);
-        let mut table = Table::fresh_of(schemes.clone());
-        let mut before = None;
-        for call in what_if_list_under(&mut random, &schemes, rows, 5) {
-            let number = make(&mut table, &call);
-            match call {
-                Call::Infer(..) => {
-                    let answer = inferred(&table);
-                    infers += 1;
-                    changed += usize::from(before.is_some_and(|before| before != answer));
-                    before = Some(answer);
-                }
-                _ => assert_eq!(number, 0, "for {call:?}"),
-            }
-        }
+        let calls = what_if_list_under(&mut random, &schemes, rows, 5);
+        infers.take(&mut Table::fresh_of(schemes), &calls);
     }
-    assert!(infers >= 2_400 && changed > infers / 4, "{changed} of {infers} were changed only");
+    assert!(infers.made >= 2_400 && infers.changed > infers.made / 4, "{infers:?}");
 }
 
 #[test]
@@ -240,7 +208,7 @@ fn the_entry_and_the_calls_agree_on_damaged_texts() {
         let returned = entry_under(&file, &text, &mut one);
         assert_eq!(returned, answer_by_calls(&file, &text, &mut other));
         assert_eq!(one, other);
-        counts.add(if returned > 100_000 { 0 } else { returned / 1_000 });
+        counts.add(number_of(returned));
     }
     counts.assert_each([0, 1, 2, 4, 5, 6, 7, 8, 10, 21, 22, 23, 24], 5);
 }
@@ -329,7 +297,7 @@ fn texts_are_answered_alike_under_the_file_of_the_six() {
         let returned = entry(&bytes, &mut one);
         assert_eq!(entry_under(&text(SIX), &bytes, &mut other), returned);
         assert_eq!(one, other);
-        counts.add(if returned > 100_000 { 0 } else { returned / 1_000 });
+        counts.add(number_of(returned));
     }
     counts.assert_each([0, 1, 2, 4, 5, 6, 7, 8, 10, 21, 22, 23, 24], 5);
 }

@@ -29,6 +29,12 @@ impl Tally {
         }
     }
 
+    /// Asserts that so many tables had a typing, and that so many had none by each of the numbers 21 to 23.
+    pub fn assert_each_verdict(&self, accepted: usize, refused: [usize; 3]) {
+        let enough = self.refused.iter().zip(refused).all(|(&count, fewest)| count >= fewest);
+        assert!(self.accepted >= accepted && enough, "{self:?}");
+    }
+
     /// Asserts that floors were met, that one was missed, and that several were, so often each.
     pub fn assert_each_floor(&self, fewest: usize) {
         assert!(self.floors.iter().all(|&count| count >= fewest), "{self:?}");
@@ -111,21 +117,33 @@ pub fn assert_shapes(table: &Table, found: &Found) {
     }
 }
 
-/// Compares and counts a table without ANY rows, for which the search is complete; gives what it found.
-pub fn compare_complete(searched: Searched, tally: &mut Tally) -> Found {
+/// Compares a table with what a search to a depth that suffices found, and counts it; tells whether it has a typing.
+fn compare_found(
+    searched: Searched,
+    depth: usize,
+    all: &Found,
+    shapes: usize,
+    tally: &mut Tally,
+) -> bool {
     let table = searched.table;
-    let all = searched.typings(Rules::All, 0);
-    let without_bounds = searched.most_rows(Rules::WithoutBounds, 0);
-    let shapes = searched.rows_with_shapes(0);
+    let without_bounds = searched.most_rows(Rules::WithoutBounds, depth);
     let expected = searched_verdict(table.terms.len(), all.most_rows, without_bounds, shapes);
     assert_eq!(verdict(table), expected, "in {table:?}");
     tally.count(expected.0);
     tally.numbers.take(table);
     if expected.0 == 0 {
-        assert_greatest_words(searched, &all);
-        assert_shapes(table, &all);
+        assert_greatest_words(searched, all);
     }
-    compare_answer(searched, expected, &all, tally);
+    compare_answer(searched, expected, all, tally);
+    expected.0 == 0
+}
+
+/// Compares and counts a table without ANY rows, for which the search is complete; gives what it found.
+pub fn compare_complete(searched: Searched, tally: &mut Tally) -> Found {
+    let all = searched.typings(Rules::All, 0);
+    if compare_found(searched, 0, &all, searched.rows_with_shapes(0), tally) {
+        assert_shapes(searched.table, &all);
+    }
     all
 }
 
@@ -140,14 +158,6 @@ pub fn compare(searched: Searched, depth: usize, tally: &mut Tally) -> bool {
         assert!(all.most_rows <= verdict(table).1, "in {table:?}");
         return false;
     }
-    let without_bounds = searched.most_rows(Rules::WithoutBounds, depth);
-    let expected = searched_verdict(table.terms.len(), all.most_rows, without_bounds, shapes);
-    assert_eq!(verdict(table), expected, "in {table:?}");
-    tally.count(expected.0);
-    tally.numbers.take(table);
-    if expected.0 == 0 {
-        assert_greatest_words(searched, &all);
-    }
-    compare_answer(searched, expected, &all, tally);
+    compare_found(searched, depth, &all, shapes, tally);
     true
 }

@@ -31,36 +31,36 @@ fn compare_all(seed: u64, tables: usize, limits: &Limits, make: Make) -> Tally {
 
 #[test]
 fn tables_without_unknown_types_agree() {
-    let limits = Limits { unknowns: 0, arrows: 9, constants: 9, variables: 3, rows: 8 };
+    let limits = Limits::without_unknowns(8);
     let tally = compare_all(1, 1000, &limits, tiny_table);
-    assert!(tally.accepted > 200 && tally.refused.iter().all(|&count| count > 40), "{tally:?}");
+    tally.assert_each_verdict(201, [41; 3]);
     let others = [Place::Argument, Place::Function, Place::Body, Place::NoChild];
     tally.numbers.places.assert_each(Place::operands().into_iter().chain(others), 50);
 }
 
 #[test]
 fn tables_without_arrows_agree() {
-    let limits = Limits { unknowns: 0, arrows: 0, constants: 1, variables: 3, rows: 14 };
+    let limits = Limits::without_arrows(14);
     let tally = compare_all(8, 500, &limits, tiny_table);
-    assert!(tally.accepted > 100 && tally.refused[1] > 40 && tally.refused[2] > 40, "{tally:?}");
+    tally.assert_each_verdict(101, [0, 41, 41]);
     tally.numbers.places.assert_each(Place::operands(), 80);
     tally.numbers.different_words.assert_each(2..=3, 50);
 }
 
 #[test]
 fn closed_tables_without_unknown_types_agree() {
-    let limits = Limits { unknowns: 0, arrows: 9, constants: 9, variables: 3, rows: 5 };
+    let limits = Limits::without_unknowns(5);
     let tally = compare_all(9, 2500, &limits, closed_table);
-    assert!(tally.refused.iter().all(|&count| count > 40), "{tally:?}");
+    tally.assert_each_verdict(0, [41; 3]);
     tally.assert_each_floor(50);
     tally.numbers.places.assert_each(Place::operands(), 300);
 }
 
 #[test]
 fn closed_tables_without_arrows_agree() {
-    let limits = Limits { unknowns: 0, arrows: 0, constants: 1, variables: 3, rows: 4 };
+    let limits = Limits::without_arrows(4);
     let tally = compare_all(10, 1500, &limits, closed_table);
-    assert!(tally.refused[1] > 40 && tally.refused[2] > 40, "{tally:?}");
+    tally.assert_each_verdict(0, [0, 41, 41]);
     tally.assert_each_floor(70);
     tally.numbers.places.assert_each(Place::operands(), 200);
     let words = possible_words(SchemeTable::six()).into_iter().filter(|it| it.0.is_some());
@@ -69,9 +69,9 @@ fn closed_tables_without_arrows_agree() {
 
 #[test]
 fn tables_that_apply_numbers_agree() {
-    let limits = Limits { unknowns: 0, arrows: 9, constants: 9, variables: 3, rows: 9 };
+    let limits = Limits::without_unknowns(9);
     let tally = compare_all(12, 1500, &limits, applying_table);
-    assert!(tally.accepted > 500 && tally.refused[1] > 200 && tally.refused[2] > 200, "{tally:?}");
+    tally.assert_each_verdict(501, [0, 201, 201]);
     let places = [Place::IgnoredArgument, Place::Argument, Place::Result, Place::Body];
     tally.numbers.places.assert_each(Place::operands().into_iter().chain(places), 80);
     tally.numbers.operand_words.assert_each(possible_words(SchemeTable::six()), 5);
@@ -130,7 +130,7 @@ fn tables_with_one_unknown_type_agree() {
         &Limits { unknowns: 1, arrows: 3, constants: 9, variables: 2, rows: 7 },
         tiny_table,
     );
-    assert!(tally.accepted > 50 && tally.refused.iter().all(|&count| count > 10), "{tally:?}");
+    tally.assert_each_verdict(51, [11; 3]);
 }
 
 #[test]

@@ -87,19 +87,17 @@ fn the_file_of_the_six_has_the_order_by_hand() {
 
 #[test]
 fn tables_without_unknown_types_agree_under_any_file() {
-    let limits = Limits { unknowns: 0, arrows: 9, constants: 9, variables: 3, rows: 8 };
+    let limits = Limits::without_unknowns(8);
     let seen = compare_under_files(61, 2000, &limits, tiny_table);
-    let Tally { accepted, refused, .. } = seen.tally;
-    assert!(accepted > 300 && refused.iter().all(|&count| count > 60), "{accepted} {refused:?}");
+    seen.tally.assert_each_verdict(301, [61; 3]);
     seen.assert_each_property(40);
 }
 
 #[test]
 fn closed_tables_without_unknown_types_agree_under_any_file() {
-    let limits = Limits { unknowns: 0, arrows: 9, constants: 9, variables: 3, rows: 5 };
+    let limits = Limits::without_unknowns(5);
     let seen = compare_under_files(62, 3000, &limits, closed_table);
-    let refused = seen.tally.refused;
-    assert!(refused.iter().all(|&count| count > 200), "{refused:?}");
+    seen.tally.assert_each_verdict(0, [201; 3]);
     seen.tally.assert_each_floor(50);
     seen.tally.numbers.places.assert_each(Place::operands(), 300);
     seen.assert_each_property(40);
@@ -107,29 +105,26 @@ fn closed_tables_without_unknown_types_agree_under_any_file() {
 
 #[test]
 fn closed_tables_without_arrows_agree_under_any_file() {
-    let limits = Limits { unknowns: 0, arrows: 0, constants: 1, variables: 3, rows: 6 };
+    let limits = Limits::without_arrows(6);
     let seen = compare_under_files(63, 1500, &limits, closed_table);
-    let refused = seen.tally.refused;
-    assert!(refused[1] > 150 && refused[2] > 300, "{refused:?}");
+    seen.tally.assert_each_verdict(0, [0, 151, 301]);
     seen.tally.assert_each_floor(70);
     seen.assert_each_property(35);
 }
 
 #[test]
 fn tables_that_apply_numbers_agree_under_any_file() {
-    let limits = Limits { unknowns: 0, arrows: 9, constants: 9, variables: 3, rows: 9 };
+    let limits = Limits::without_unknowns(9);
     let seen = compare_under_files(64, 1500, &limits, applying_table);
-    let Tally { accepted, refused, .. } = seen.tally;
-    assert!(accepted > 500 && refused[1] > 150 && refused[2] > 150, "{accepted} {refused:?}");
+    seen.tally.assert_each_verdict(501, [0, 151, 151]);
     seen.assert_each_property(30);
 }
 
 #[test]
 fn tables_with_several_bounds_agree_under_any_file() {
-    let limits = Limits { unknowns: 0, arrows: 9, constants: 9, variables: 3, rows: 9 };
+    let limits = Limits::without_unknowns(9);
     let seen = compare_under_files(66, 6000, &limits, chained_table);
-    let refused = seen.tally.refused;
-    assert!(refused[1] > 100 && refused[2] > 500, "{refused:?}");
+    seen.tally.assert_each_verdict(0, [0, 101, 501]);
     seen.tally.assert_each_floor(400);
     seen.assert_each_property(80);
     seen.plain_by_bounds.assert_each([PlainByBounds::Unsupported], 400);
@@ -146,6 +141,5 @@ fn tables_with_one_unknown_type_agree_under_any_file() {
         let searched = Searched { order: &order, table: &table, variables: limits.variables };
         compare(searched, 1, &mut tally);
     }
-    let Tally { accepted, refused, .. } = tally;
-    assert!(accepted > 200 && refused.iter().all(|&count| count > 10), "{accepted} {refused:?}");
+    tally.assert_each_verdict(201, [11; 3]);
 }

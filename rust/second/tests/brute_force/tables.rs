@@ -18,6 +18,18 @@ pub struct Limits {
     pub rows: usize,
 }
 
+impl Limits {
+    /// So many rows, and no ANY row.
+    pub fn without_unknowns(rows: usize) -> Limits {
+        Limits { unknowns: 0, arrows: 9, constants: 9, variables: 3, rows }
+    }
+
+    /// So many rows, no ANY row, no arrow, and one ENC row.
+    pub fn without_arrows(rows: usize) -> Limits {
+        Limits { arrows: 0, constants: 1, ..Limits::without_unknowns(rows) }
+    }
+}
+
 /// The words of the lines of one table.
 struct Words {
     /// PLAIN, behind two words of the scheme table: few make rows agree more often.

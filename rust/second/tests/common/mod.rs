@@ -4,9 +4,10 @@
 #![allow(dead_code)]
 
 pub use second::generate::text_of_lines as text;
+use second::generate::Call;
 use second::line::read;
 use second::place::inferred;
-use second::{entry_under, place, Table};
+use second::{entry_under, place, Answer, Table};
 
 /// Asserts what `place` prints for a program, both given as words separated by white space.
 pub fn assert_prints(program: &str, expected: &str) {
@@ -99,4 +100,54 @@ pub fn assert_refused(table: &mut Table, line: &str, number: u32) {
     let before = table.clone();
     assert_eq!(table.add(line.as_bytes()), number, "for the line {line}");
     assert_eq!(*table, before, "for the line {line}");
+}
+
+/// Makes a call; gives its number and asserts that a refusal changes nothing, and that no call changes the scheme table.
+pub fn make(table: &mut Table, call: &Call) -> u32 {
+    let before = table.clone();
+    let number = match call {
+        Call::Add(line) => table.add(line),
+        Call::Redeclare(parameter, code) => table.redeclare(*parameter, *code),
+        Call::TakeBack => table.take_back(),
+        Call::Infer(length, fill) => {
+            let mut buffer = vec![*fill; *length];
+            let Answer { number, row, length } = table.infer(&mut buffer);
+            assert!(number == 0 || length == 0);
+            assert!(number > 20 || row == 0);
+            assert!(buffer[length as usize..].iter().all(|byte| byte == fill));
+            assert_eq!(*table, before);
+            number
+        }
+    };
+    assert!(number == 0 || *table == before);
+    assert_eq!(table.schemes(), before.schemes());
+    number
+}
+
+/// How many infers were made, and how many gave another answer than the one before them.
+#[derive(Debug, Default)]
+pub struct Infers {
+    /// All of them.
+    pub made: usize,
+    /// Those with another answer.
+    pub changed: usize,
+}
+
+impl Infers {
+    /// Makes calls on a table, all but infers accepted, and counts the infers.
+    pub fn take(&mut self, table: &mut Table, calls: &[Call]) {
+        let mut before = None;
+        for call in calls {
+            let number = make(table, call);
+            match call {
+                Call::Infer(..) => {
+                    let answer = inferred(table);
+                    self.made += 1;
+                    self.changed += usize::from(before.is_some_and(|before| before != answer));
+                    before = Some(answer);
+                }
+                _ => assert_eq!(number, 0, "for {call:?}"),
+            }
+        }
+    }
 }
