@@ -1,16 +1,16 @@
--- The words of the report, as arrays of five bytes and the fields of a text spell them.
-use Prim.Native.Nat.{ℕ, zero, suc, _-_, _≤_}
+-- The words of the report, as arrays of five bytes and the table spell them.
+use Prim.Native.Nat.{ℕ, zero, suc, _+_, _-_, _*_, _≤_, _<_}
 use native.Mathlib.Omega.{arith}
 use mathlib.Core.Bool.{true}
-use mathlib.Core.List.{List, _++_}
+use mathlib.Core.List.{List, [], _++_}
 use mathlib.Core.Path.{_≡_, refl, ap, sym, _∙_}
 use lib.Dec.{leb}
-use lib.ListN.{length, take}
+use lib.ListN.{length, getD, take, drop}
 use borrow.Author.Tests.{leb-true}
 use Rattle.model.specs.Lists.{bytes}
-use Rattle.model.specs.Line.{fields, field}
 use Rattle.model.specs.Word.{qualifierWord}
-use Rattle.report.specs.Writing.{Room, Wrote, Spells}
+use Rattle.report.specs.Writing.{Room, Wrote, Spells, wordsIn}
+use Rattle.report.proofs.Tables.{sizeAt, words-at}
 
 -- A code that a match found to be none of the first n numbers is at least n.
 abbrev pub NoneOf : ℕ → ℕ → Type 0
@@ -34,26 +34,35 @@ pub spelled-wrote : {l array word l′ : List ℕ} {i size i′ : ℕ} (end : Li
     → Spells array size word → Wrote l i (take size array ++ end) l′ i′ → Wrote l i (word ++ end) l′ i′
 spelled-wrote end s p = rw (s .bytes) at p
 
--- A qualifier's word is PLAIN, or the field of the names' text that stands before its code.
-plain-word : (names : List ℕ) (code : ℕ) → code ≡ 0 → qualifierWord (fields names) code ≡ bytes "PLAIN"
+-- A qualifier's word is PLAIN, or the word of the table that stands before its code.
+plain-word : (names : List (List ℕ)) (code : ℕ) → code ≡ 0 → qualifierWord names code ≡ bytes "PLAIN"
 unfolding qualifierWord
 plain-word names code e = rw e refl
 
-named-word : (names : List ℕ) (code : ℕ) → (code ≡ 0 → ⊥) → qualifierWord (fields names) code ≡ field names (code - 1)
+named-word : (names : List (List ℕ)) (code : ℕ) → (code ≡ 0 → ⊥) → qualifierWord names code ≡ getD names (code - 1) []
 unfolding qualifierWord
 named-word names zero h = absurd (h refl)
 named-word names (suc k) h = let e : suc k - 1 ≡ k = omega arith in rw e refl
 
-module _ {l : List ℕ} {i : ℕ} (names : List ℕ) (code : ℕ) (end : List ℕ) where
-  pub plain-room : code ≡ 0 → Room l i (qualifierWord (fields names) code ++ end) → Room l i (bytes "PLAIN" ++ end)
-  plain-room e p = rw (plain-word names code e) at p
+module _ {l : List ℕ} {i : ℕ} (names : List (List ℕ)) (code : ℕ) (end : List ℕ) (e : code ≡ 0) where
+  pub plain-room : Room l i (qualifierWord names code ++ end) → Room l i (bytes "PLAIN" ++ end)
+  plain-room p = rw (plain-word names code e) at p
 
-  pub plain-wrote : {l′ : List ℕ} {i′ : ℕ} → code ≡ 0 → Wrote l i (bytes "PLAIN" ++ end) l′ i′ → Wrote l i (qualifierWord (fields names) code ++ end) l′ i′
-  plain-wrote e p = rw (plain-word names code e) p
+  pub plain-wrote : {l′ : List ℕ} {i′ : ℕ} → Wrote l i (bytes "PLAIN" ++ end) l′ i′ → Wrote l i (qualifierWord names code ++ end) l′ i′
+  plain-wrote p = rw (plain-word names code e) p
 
-  module _ (h : code ≡ 0 → ⊥) (f : List ℕ) (e : f ≡ field names (code - 1)) where
-    pub name-room : Room l i (qualifierWord (fields names) code ++ end) → Room l i (f ++ end)
-    name-room p = rw e (rw (named-word names code h) at p)
+module _ (t : List ℕ) (code : ℕ) (h : code ≡ 0 → ⊥) (below : code < 256) where
+  -- The bytes of the table from the word's first to its last.
+  abbrev part : List ℕ
+  part = take (8 * (code - 1) + sizeAt t (code - 1) - 8 * (code - 1)) (drop (8 * (code - 1)) t)
 
-    pub name-wrote : {l′ : List ℕ} {i′ : ℕ} → Wrote l i (f ++ end) l′ i′ → Wrote l i (qualifierWord (fields names) code ++ end) l′ i′
-    name-wrote p = rw (named-word names code h) (rw e at p)
+  part-word : qualifierWord (wordsIn 256 t) code ≡ part
+  part-word =
+      let e : 8 * (code - 1) + sizeAt t (code - 1) - 8 * (code - 1) ≡ sizeAt t (code - 1) = omega arith in
+      named-word (wordsIn 256 t) code h ∙ words-at 256 (code - 1) t (omega arith) ∙ rw e refl
+
+  pub tabled-room : {l : List ℕ} {i : ℕ} (end : List ℕ) → Room l i (qualifierWord (wordsIn 256 t) code ++ end) → Room l i (part ++ end)
+  tabled-room end p = rw part-word at p
+
+  pub tabled-wrote : {l l′ : List ℕ} {i i′ : ℕ} (end : List ℕ) → Wrote l i (part ++ end) l′ i′ → Wrote l i (qualifierWord (wordsIn 256 t) code ++ end) l′ i′
+  tabled-wrote end p = rw part-word p

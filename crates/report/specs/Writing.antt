@@ -1,10 +1,10 @@
 -- What each function of the writer leaves in the buffer.
-use Prim.Native.Nat.{ℕ, _+_, _≤_}
+use Prim.Native.Nat.{ℕ, zero, suc, _+_, _*_, _≤_, _<_}
 use mathlib.Core.Bool.{cond}
 use mathlib.Core.List.{List, [], _∷_}
 use mathlib.Core.Path.{_≡_}
 use lib.Dec.{ltb}
-use lib.ListN.{length, getD, take}
+use lib.ListN.{length, getD, take, drop}
 use lib.Seq.{sets}
 use Rattle.model.specs.Lists.{bytes}
 use Rattle.model.specs.Number.{decimal}
@@ -30,6 +30,24 @@ pub record Front (w l : List ℕ) (size : ℕ) : Type 0 where
 pub record Spells (array : List ℕ) (size : ℕ) (word : List ℕ) : Type 0 where
   pub bytes : take size array ≡ word
   pub room : size ≤ length array
+
+-- The first n words of a table: eight bytes each, of which the last says how many its word has.
+unfoldable pub wordsIn : ℕ → List ℕ → List (List ℕ)
+wordsIn zero table = []
+wordsIn (suc n) table = take (getD table 7 0) table ∷ wordsIn n (drop 8 table)
+
+-- A table of 256 words, none of them longer than five bytes.
+pub record Tabled (table : List ℕ) : Type 0 where
+  pub long : length table ≡ 2048
+  pub sized : (k : ℕ) → k < 256 → getD table (8 * k + 7) 0 ≤ 5
+
+-- The table has these words.
+abbrev pub Spelled : List ℕ → List (List ℕ) → Type 0
+Spelled table words = (k : ℕ) → k < 256 → getD (wordsIn 256 table) k [] ≡ getD words k []
+
+-- Each number is a byte.
+abbrev pub Bytes : List ℕ → Type 0
+Bytes l = (i : ℕ) → getD l i 0 < 256
 
 -- `OK,parameters,rows`, and the other lines of a word and two numbers
 unfoldable pub pairText : List ℕ → ℕ → ℕ → List ℕ

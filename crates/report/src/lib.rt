@@ -1,5 +1,4 @@
 // Writes the report of a typed program into a lent buffer, from the codes of its words and shapes. The names of the schemes are parted by commas.
-use line::fields;
 ghost use mathlib.Core.List.{[], _∷_, _++_};
 ghost use Prim.Native.Nat.{_+_, _≤_, _<_};
 ghost use lib.ListN.{length, take};
@@ -9,11 +8,40 @@ ghost use Rattle.model.specs.Line.{fields};
 ghost use Rattle.model.specs.Word.{qualifierWord};
 ghost use Rattle.model.specs.Report.{lines, shapeWord};
 ghost use Rattle.report.specs.Codes.{shapeOfCode, codesOf};
-ghost use Rattle.report.specs.Writing.{Room, Wrote, Spells, pairText, variableText, slotText, variableAt, slotAt};
+ghost use Rattle.report.specs.Writing.{Room, Wrote, Spells, Tabled, Spelled, Bytes, wordsIn, pairText, variableText, slotText, variableAt, slotAt};
 ghost use Rattle.report.specs.Written.{Short, Written};
 
 // A word of the report: bytes that begin with it, and how many of them it has.
 struct Word([u8; 5], usize);
+
+// The room of 256 words, as many as a byte can be the code of: eight bytes each, of which the last says how many its word has.
+const WORDS: usize = 2048;
+
+// The table of the names, so that a name is found once and not for each slot.
+fn word_table(names: &[u8]) -> [u8; WORDS]
+    requires { ⌜ Short (fields (now names)) ⌝ }
+    ensures { λ r. ⌜ Tabled r × Spelled r (fields (now (names .entry))) ⌝ }
+{
+    let mut words = [0u8; WORDS];
+    let mut k = 0;
+    let mut i = 0;
+    while i < names.len() {
+        if names[i] == b',' {
+            if k == 255 {
+                return words;
+            }
+            k += 1;
+            i += 1;
+        } else {
+            let last = 8 * k + 7;
+            let size = words[last];
+            words[8 * k + size as usize] = names[i];
+            words[last] = size + 1;
+            i += 1;
+        }
+    }
+    words
+}
 
 // A shape's word: ANY for every code but two.
 fn shape_word(code: u8) -> Word
@@ -83,15 +111,17 @@ fn write_word(buffer: &mut [u8], at: usize, word: Word, end: u8) -> usize
     write_field(buffer, at, &bytes[..size], end)
 }
 
-// Writes the word of a qualifier's code and the byte that ends its field.
-fn write_qualifier(buffer: &mut [u8], at: usize, names: &[u8], code: u8, end: u8) -> usize
-    requires { ⌜ Room (now buffer) at (qualifierWord (fields (now names)) code ++ (end ∷ [])) ⌝ }
-    ensures { λ r. ⌜ Wrote (now (buffer .entry)) at (qualifierWord (fields (now (names .entry))) code ++ (end ∷ [])) (now (buffer .exit)) r ⌝ }
+// Writes the word of a qualifier's code and the byte that ends its field: PLAIN, or the word of the table that stands before its code.
+fn write_qualifier(buffer: &mut [u8], at: usize, words: &[u8], code: u8, end: u8) -> usize
+    requires { ⌜ Tabled (now words) × Room (now buffer) at (qualifierWord (wordsIn 256 (now words)) code ++ (end ∷ [])) ⌝ }
+    ensures { λ r. ⌜ Wrote (now (buffer .entry)) at (qualifierWord (wordsIn 256 (now (words .entry))) code ++ (end ∷ [])) (now (buffer .exit)) r ⌝ }
 {
     if code == 0 {
         return write_field(buffer, at, b"PLAIN", end);
     }
-    write_field(buffer, at, fields::field(names, code as usize - 1), end)
+    let from = 8 * (code as usize - 1);
+    let size = words[from + 7] as usize;
+    write_field(buffer, at, &words[from..from + size], end)
 }
 
 // Writes the word of a shape's code and the byte that ends its field.
@@ -122,14 +152,14 @@ fn write_counts(buffer: &mut [u8], at: usize, params: usize, rows: usize) -> usi
 }
 
 // Writes the line of a variable whose code is a word's.
-fn write_variable(buffer: &mut [u8], at: usize, names: &[u8], k: usize, code: u8) -> usize
-    requires { ⌜ Room (now buffer) at (variableText (fields (now names)) k code) ⌝ }
-    ensures { λ r. ⌜ Wrote (now (buffer .entry)) at (variableText (fields (now (names .entry))) k code) (now (buffer .exit)) r ⌝ }
+fn write_variable(buffer: &mut [u8], at: usize, words: &[u8], k: usize, code: u8) -> usize
+    requires { ⌜ Tabled (now words) × Room (now buffer) at (variableText (wordsIn 256 (now words)) k code) ⌝ }
+    ensures { λ r. ⌜ Wrote (now (buffer .entry)) at (variableText (wordsIn 256 (now (words .entry))) k code) (now (buffer .exit)) r ⌝ }
 {
     if code < 9 {
         let number = write_field(buffer, at, b"G", b',');
         let word = write_number(buffer, number, k, b',');
-        return write_qualifier(buffer, word, names, code, b'\n');
+        return write_qualifier(buffer, word, words, code, b'\n');
     }
     at
 }
@@ -138,53 +168,53 @@ fn write_variable(buffer: &mut [u8], at: usize, names: &[u8], k: usize, code: u8
 fn write_slot(
     buffer: &mut [u8],
     at: usize,
-    names: &[u8],
+    words: &[u8],
     tag: u8,
     i: usize,
     code: u8,
     shape: u8,
 ) -> usize
-    requires { ⌜ Room (now buffer) at (slotText (fields (now names)) tag i code shape) ⌝ }
-    ensures { λ r. ⌜ Wrote (now (buffer .entry)) at (slotText (fields (now (names .entry))) tag i code shape) (now (buffer .exit)) r ⌝ }
+    requires { ⌜ Tabled (now words) × Room (now buffer) at (slotText (wordsIn 256 (now words)) tag i code shape) ⌝ }
+    ensures { λ r. ⌜ Wrote (now (buffer .entry)) at (slotText (wordsIn 256 (now (words .entry))) tag i code shape) (now (buffer .exit)) r ⌝ }
 {
     let letter = [tag];
     let number = write_field(buffer, at, &letter, b',');
     let word = write_number(buffer, number, i, b',');
-    let last = write_qualifier(buffer, word, names, code, b',');
+    let last = write_qualifier(buffer, word, words, code, b',');
     write_shape(buffer, last, shape, b'\n')
 }
 
-// Writes the lines of the variables, rising.
-fn write_variables(buffer: &mut [u8], at: usize, names: &[u8], variables: &[u8]) -> usize
-    requires { ⌜ (64 ≤ length (now variables)) × Room (now buffer) at (lines (variableAt (fields (now names)) (now variables)) 0 64) ⌝ }
-    ensures { λ r. ⌜ Wrote (now (buffer .entry)) at (lines (variableAt (fields (now (names .entry))) (now (variables .entry))) 0 64) (now (buffer .exit)) r ⌝ }
+// Writes the lines of the variables, rising. The caller is told that the codes are bytes, which is known of a slice and not of a lent array.
+fn write_variables(buffer: &mut [u8], at: usize, words: &[u8], variables: &[u8]) -> usize
+    requires { ⌜ Tabled (now words) × (64 ≤ length (now variables)) × Room (now buffer) at (lines (variableAt (wordsIn 256 (now words)) (now variables)) 0 64) ⌝ }
+    ensures { λ r. ⌜ Wrote (now (buffer .entry)) at (lines (variableAt (wordsIn 256 (now (words .entry))) (now (variables .entry))) 0 64) (now (buffer .exit)) r × Bytes (now (variables .entry)) ⌝ }
 {
     let mut next = at;
     let mut k = 0;
     while k < 64 {
-        next = write_variable(buffer, next, names, k, variables[k]);
+        next = write_variable(buffer, next, words, k, variables[k]);
         k += 1;
     }
     next
 }
 
-// Writes the lines of the first parameters or rows.
+// Writes the lines of the first parameters or rows; the same is told of their codes.
 fn write_slots(
     buffer: &mut [u8],
     at: usize,
-    names: &[u8],
+    words: &[u8],
     tag: u8,
     codes: &[u8],
     shapes: &[u8],
     count: usize,
 ) -> usize
-    requires { ⌜ (count ≤ length (now codes)) × (count ≤ length (now shapes)) × Room (now buffer) at (lines (slotAt (fields (now names)) tag (now codes) (now shapes)) 0 count) ⌝ }
-    ensures { λ r. ⌜ Wrote (now (buffer .entry)) at (lines (slotAt (fields (now (names .entry))) tag (now (codes .entry)) (now (shapes .entry))) 0 count) (now (buffer .exit)) r ⌝ }
+    requires { ⌜ Tabled (now words) × (count ≤ length (now codes)) × (count ≤ length (now shapes)) × Room (now buffer) at (lines (slotAt (wordsIn 256 (now words)) tag (now codes) (now shapes)) 0 count) ⌝ }
+    ensures { λ r. ⌜ Wrote (now (buffer .entry)) at (lines (slotAt (wordsIn 256 (now (words .entry))) tag (now (codes .entry)) (now (shapes .entry))) 0 count) (now (buffer .exit)) r × Bytes (now (codes .entry)) ⌝ }
 {
     let mut next = at;
     let mut i = 0;
     while i < count {
-        next = write_slot(buffer, next, names, tag, i, codes[i], shapes[i]);
+        next = write_slot(buffer, next, words, tag, i, codes[i], shapes[i]);
         i += 1;
     }
     next
@@ -208,16 +238,17 @@ pub fn write(
         (codesOf (now (variables .entry)) (now («param_words» .entry)) (now («param_shapes» .entry)) (now («row_words» .entry)) (now («row_shapes» .entry)))
         params rows (now (buffer .entry)) (now (buffer .exit)) r ⌝ }
 {
+    let words = word_table(names);
     let first = write_counts(buffer, 0, params, rows);
-    let second = write_variables(buffer, first, names, variables);
+    let second = write_variables(buffer, first, &words, variables);
     let third = write_slots(
         buffer,
         second,
-        names,
+        &words,
         b'P',
         param_words,
         param_shapes,
         params,
     );
-    write_slots(buffer, third, names, b'E', row_words, row_shapes, rows)
+    write_slots(buffer, third, &words, b'E', row_words, row_shapes, rows)
 }

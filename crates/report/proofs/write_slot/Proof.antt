@@ -11,19 +11,21 @@ slice-aggregate-write-field c = search needs
 
 write-field-requires : tie.Need-write-field-requires
 unfolding slotText
-write-field-requires c κs = first-room (_ ∷ []) _ _ (c .before .before .before .before .pre)
+write-field-requires c κs = first-room (_ ∷ []) _ _ (c .before .before .before .before .pre .1)
 
 write-number-requires : tie.Need-write-number-requires
 unfolding slotText
-write-number-requires c κs = first-room _ _ _ (rest-room (_ ∷ []) _ _ (c .before .before .before .before .before .before .before .before .pre) (c .before .before .before .write-field .ensures))
+write-number-requires c κs = first-room _ _ _ (rest-room (_ ∷ []) _ _ (c .before .before .before .before .before .before .before .before .pre .1) (c .before .before .before .write-field .ensures))
 
 write-qualifier-requires : tie.Need-write-qualifier-requires
 unfolding slotText
-write-qualifier-requires c κs =
-    first-room _ _ _
-    (rest-room _ _ _
-    (rest-room (_ ∷ []) _ _ (c .before .before .before .before .before .before .before .before .before .before .before .before .pre) (c .before .before .before .before .before .before .before .write-field .ensures))
-    (c .before .before .before .write-number .ensures))
+write-qualifier-requires c κs = (
+  search needs,
+  first-room _ _ _
+      (rest-room _ _ _
+      (rest-room (_ ∷ []) _ _ (c .before .before .before .before .before .before .before .before .before .before .before .before .pre .1) (c .before .before .before .before .before .before .before .write-field .ensures))
+      (c .before .before .before .write-number .ensures)),
+)
 
 write-shape-requires : tie.Need-write-shape-requires
 unfolding slotText
@@ -31,7 +33,7 @@ write-shape-requires c κs =
     last-room _ _
     (rest-room _ _ _
     (rest-room _ _ _
-    (rest-room (_ ∷ []) _ _ (c .before .before .before .before .before .before .before .before .before .before .before .before .before .before .before .before .pre) (c .before .before .before .before .before .before .before .before .before .before .before .write-field .ensures))
+    (rest-room (_ ∷ []) _ _ (c .before .before .before .before .before .before .before .before .before .before .before .before .before .before .before .before .pre .1) (c .before .before .before .before .before .before .before .before .before .before .before .write-field .ensures))
     (c .before .before .before .before .before .before .before .write-number .ensures))
     (c .before .before .before .write-qualifier .ensures))
 

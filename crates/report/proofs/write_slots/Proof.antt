@@ -1,23 +1,23 @@
 -- The loop has left to write the lines of the slots from i on.
 use Prim.Native.Nat.{_-_, _≤_}
 use native.Mathlib.Omega.{arith}
-use Rattle.model.specs.Line.{fields}
+use borrow.Author.Needs.{needs}
 use Rattle.model.specs.Report.{lines}
-use Rattle.report.specs.Writing.{slotAt}
+use Rattle.report.specs.Writing.{wordsIn, slotAt}
 use Rattle.report.proofs.Writing.{Left, left-length}
 use Rattle.report.proofs.Lines.{turn-start, turn-room, turn-left, turn-end}
 use Rattle.report.proofs.write_slots.Statement.{statement}
 use Rattle.report.proofs.write_slots.Tie as tie
 
 abbrev Inv-loop : tie.InvT-loop
-Inv-loop buffer₀ at names tag codes shapes count next₀ i₀ buffer next i =
-    (i ≤ count) × Left buffer next (lines (slotAt (fields names) tag codes shapes) i (count - i)) buffer₀ at (lines (slotAt (fields names) tag codes shapes) 0 count)
+Inv-loop buffer₀ at words tag codes shapes count next₀ i₀ buffer next i =
+    (i ≤ count) × Left buffer next (lines (slotAt (wordsIn 256 words) tag codes shapes) i (count - i)) buffer₀ at (lines (slotAt (wordsIn 256 words) tag codes shapes) 0 count)
 
 abbrev μ-loop : tie.MeasureT-loop
-μ-loop buffer₀ at names tag codes shapes count next₀ i₀ buffer next i = count - i
+μ-loop buffer₀ at words tag codes shapes count next₀ i₀ buffer next i = count - i
 
 loop-holds : tie.Need-loop-holds Inv-loop μ-loop
-loop-holds c = (omega arith, turn-start _ _ (c .before .before .before .before .pre .2))
+loop-holds c = (omega arith, turn-start _ _ (c .before .before .before .before .pre .3))
 
 shared-slice-read-write-slot : tie.Need-shared-slice-read-write-slot Inv-loop μ-loop
 shared-slice-read-write-slot c = omega arith
@@ -26,7 +26,7 @@ shared-slice-read-write-slot-2 : tie.Need-shared-slice-read-write-slot-2 Inv-loo
 shared-slice-read-write-slot-2 c = omega arith
 
 write-slot-requires : tie.Need-write-slot-requires Inv-loop μ-loop
-write-slot-requires c κs = turn-room _ _ _ (c .before .before .before .before .loop .inv .1) (c .before .before .before .loop-test .taken)
+write-slot-requires c κs = (search needs, turn-room _ _ _ (c .before .before .before .before .loop .inv .1) (c .before .before .before .loop-test .taken))
 
 add-i : tie.Need-add-i Inv-loop μ-loop
 add-i c = omega arith
@@ -44,7 +44,7 @@ same-length : tie.Need-same-length Inv-loop μ-loop
 same-length c = left-length (c .before .loop .inv .1)
 
 returns : tie.Need-returns Inv-loop μ-loop
-returns c = turn-end _ _ _ (c .before .loop .inv .1) (c .loop-test .left)
+returns c = (turn-end _ _ _ (c .before .loop .inv .1) (c .loop-test .left), λ i. omega (arith, c .before .before .before .shared-slice-known2 .given i))
 
 pub write-slots-spec : {M : Type 1} → statement M
 write-slots-spec =

@@ -10,23 +10,25 @@ slice-aggregate-write-field : tie.Need-slice-aggregate-write-field
 slice-aggregate-write-field c = search needs
 
 write-field-requires : tie.Need-write-field-requires
-write-field-requires c κs = first-room (bytes "G") _ _ (listed-room _ _ _ (c .before .before .if1 .taken) (c .before .before .before .before .before .pre))
+write-field-requires c κs = first-room (bytes "G") _ _ (listed-room _ _ _ (c .before .before .if1 .taken) (c .before .before .before .before .before .pre .1))
 
 write-number-requires : tie.Need-write-number-requires
 write-number-requires c κs =
     first-room _ _ _
     (rest-room (bytes "G") _ _
-    (listed-room _ _ _ (c .before .before .before .before .before .before .if1 .taken) (c .before .before .before .before .before .before .before .before .before .pre))
+    (listed-room _ _ _ (c .before .before .before .before .before .before .if1 .taken) (c .before .before .before .before .before .before .before .before .before .pre .1))
     (c .before .before .before .write-field .ensures))
 
 write-qualifier-requires : tie.Need-write-qualifier-requires
-write-qualifier-requires c κs =
-    last-room _ _
-    (rest-room _ _ _
-    (rest-room (bytes "G") _ _
-    (listed-room _ _ _ (c .before .before .before .before .before .before .before .before .before .before .if1 .taken) (c .before .before .before .before .before .before .before .before .before .before .before .before .before .pre))
-    (c .before .before .before .before .before .before .before .write-field .ensures))
-    (c .before .before .before .write-number .ensures))
+write-qualifier-requires c κs = (
+  search needs,
+  last-room _ _
+      (rest-room _ _ _
+      (rest-room (bytes "G") _ _
+      (listed-room _ _ _ (c .before .before .before .before .before .before .before .before .before .before .if1 .taken) (c .before .before .before .before .before .before .before .before .before .before .before .before .before .pre .1))
+      (c .before .before .before .before .before .before .before .write-field .ensures))
+      (c .before .before .before .write-number .ensures)),
+)
 
 same-length : tie.Need-same-length
 same-length c = search needs

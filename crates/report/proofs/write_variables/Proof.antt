@@ -1,24 +1,24 @@
 -- The loop has left to write the lines of the variables from k on.
 use Prim.Native.Nat.{_-_, _≤_, _<_}
 use native.Mathlib.Omega.{arith}
+use borrow.Author.Needs.{needs}
 use lib.ListN.{length}
-use Rattle.model.specs.Line.{fields}
 use Rattle.model.specs.Report.{lines}
-use Rattle.report.specs.Writing.{variableAt}
+use Rattle.report.specs.Writing.{wordsIn, variableAt}
 use Rattle.report.proofs.Writing.{Left, left-length}
 use Rattle.report.proofs.Lines.{variable-read, turn-start, turn-room, turn-left, turn-end}
 use Rattle.report.proofs.write_variables.Statement.{statement}
 use Rattle.report.proofs.write_variables.Tie as tie
 
 abbrev Inv-loop : tie.InvT-loop
-Inv-loop buffer₀ at names variables next₀ k₀ buffer next k =
-    (k ≤ 64) × Left buffer next (lines (variableAt (fields names) variables) k (64 - k)) buffer₀ at (lines (variableAt (fields names) variables) 0 64)
+Inv-loop buffer₀ at words variables next₀ k₀ buffer next k =
+    (k ≤ 64) × Left buffer next (lines (variableAt (wordsIn 256 words) variables) k (64 - k)) buffer₀ at (lines (variableAt (wordsIn 256 words) variables) 0 64)
 
 abbrev μ-loop : tie.MeasureT-loop
-μ-loop buffer₀ at names variables next₀ k₀ buffer next k = 64 - k
+μ-loop buffer₀ at words variables next₀ k₀ buffer next k = 64 - k
 
 loop-holds : tie.Need-loop-holds Inv-loop μ-loop
-loop-holds c = (omega arith, turn-start _ 64 (c .before .before .before .pre .1))
+loop-holds c = (omega arith, turn-start _ 64 (c .before .before .before .pre .2))
 
 shared-slice-read-write-variable : tie.Need-shared-slice-read-write-variable Inv-loop μ-loop
 shared-slice-read-write-variable c = omega arith
@@ -27,7 +27,7 @@ write-variable-requires : tie.Need-write-variable-requires Inv-loop μ-loop
 write-variable-requires c κs =
     let at-k = c .before .before .before in
     let below : at-k .loop .k < length (at-k .before .before .before .before .args .variables .now) = omega arith in
-    rw (variable-read _ _ _ below) at (turn-room _ _ 64 (at-k .loop .inv .1) (c .before .before .loop-test .taken))
+    (search needs, rw (variable-read _ _ _ below) at (turn-room _ _ 64 (at-k .loop .inv .1) (c .before .before .loop-test .taken)))
 
 add-k : tie.Need-add-k Inv-loop μ-loop
 add-k c = omega arith
@@ -47,7 +47,7 @@ same-length : tie.Need-same-length Inv-loop μ-loop
 same-length c = left-length (c .before .loop .inv .1)
 
 returns : tie.Need-returns Inv-loop μ-loop
-returns c = turn-end _ _ 64 (c .before .loop .inv .1) (c .loop-test .left)
+returns c = (turn-end _ _ 64 (c .before .loop .inv .1) (c .loop-test .left), λ i. omega (arith, c .before .before .shared-slice-known2 .given i))
 
 pub write-variables-spec : {M : Type 1} → statement M
 write-variables-spec =
