@@ -105,16 +105,15 @@ fn report_above_floors(
     requires { ⌜ Ready table × Closed (lists table) × (6280 ≤ length (now buffer)) × Solves (lists table) (codesOf (now variables) (now «param_words») (now «param_shapes») (now «row_words») (now «row_shapes»)) Answer.Placed ⌝ }
     ensures { λ r. ⌜ Infers (lists table) (now (buffer .entry)) (outcome r (now (buffer .exit))) ⌝ }
 {
-    let schemes = table.schemes;
-    let rule = schemes.rule;
-    let names = schemes.names;
+    let rule = table.schemes.rule;
+    let names = table.schemes.names;
     let params = table.params;
     match floors::lowest_missed(&rule, params, table.parameters(), param_words) {
         Missed::At(p) => refusal(24, p),
         Missed::Nowhere => {
             let size = report::write(
                 buffer,
-                schemes::front(&names, schemes.size),
+                schemes::front(&names, table.schemes.size),
                 variables,
                 param_words,
                 param_shapes,
@@ -144,8 +143,7 @@ pub fn solve(
     requires { ⌜ Ready table × (0 < length (lists table .terms)) ⌝ }
     ensures { λ r. ⌜ Solves (lists table) (codesOf (now (variables .exit)) (now («param_words» .exit)) (now («param_shapes» .exit)) (now («row_words» .exit)) (now («row_shapes» .exit))) r ⌝ }
 {
-    let schemes = table.schemes;
-    let rule = schemes.rule;
+    let rule = table.schemes.rule;
     let types = table.types;
     let params = table.params;
     let terms = table.terms;

@@ -296,9 +296,8 @@ impl Table {
     pub fn add(mut self, line: &[u8]) -> Answered
         ensures { λ r. ⌜ (change r ≡ added (lists self) (now (line .entry))) × (r .table .schemes ≡ self .schemes) ⌝ }
     {
-        let schemes = self.schemes;
-        let names = schemes.names;
-        self.enter(line::read(schemes::front(&names, schemes.size), line))
+        let names = self.schemes.names;
+        self.enter(line::read(schemes::front(&names, self.schemes.size), line))
     }
 
     // Adds the entry of a line, or refuses it.
@@ -326,9 +325,8 @@ impl Table {
                 number: 5,
             };
         }
-        let schemes = self.schemes;
-        let names = schemes.names;
-        let words = line::fields::count(schemes::front(&names, schemes.size)) + 1;
+        let names = self.schemes.names;
+        let words = line::fields::count(schemes::front(&names, self.schemes.size)) + 1;
         if words + 64 <= code {
             return Answered {
                 table: self,

@@ -12,7 +12,7 @@ parameters-requires c κs = search needs
 
 lowest-missed-requires : tie.Need-lowest-missed-requires
 lowest-missed-requires c κs =
-    let start = c .before .before .before .before .before .before .before in
+    let start = c .before .before .before .before .before .before in
     (rule-lattice (ready-governed (start .args .table) (start .pre .0)), (c .parameters .ensures .1, codes-worded (start .args .table) (start .pre .0) _ (start .pre .3) _ (c .parameters .ensures .0)))
 
 enum-known-p : tie.Need-enum-known-p
@@ -38,12 +38,12 @@ term-rows-requires c κs = search needs
 
 write-requires : tie.Need-write-requires
 write-requires c κs =
-    let start = c .before .before .before .before .before .before .before .before .before .before .before .before .before .before .before in
+    let start = c .before .before .before .before .before .before .before .before .before .before .before .before .before .before in
     (front-short (start .args .table) _ (c .before .before .front .ensures) (start .pre .0), (c .before .parameters2 .ensures .1, c .term-rows .ensures .1, start .pre .2))
 
 returns : tie.Need-returns
 returns c =
-    let start = c .before .before .before .before .before .before .before .before .before .before .before .before in
+    let start = c .before .before .before .before .before .before .before .before .before .before .before in
     let found = c .before .before .before .before in
     let missed = one-missed (start .args .table) (start .pre .0) _ (start .pre .3) _ (found .before .parameters .ensures .0) _ (rw (c .before .before .p .given .1) at (found .lowest-missed .ensures)) in
     floor-refused _ _ _ (start .pre .2) (start .pre .1) _ _ (start .pre .3) missed (c .refusal .ensures)
@@ -53,7 +53,7 @@ same-length c = search needs
 
 returns-2 : tie.Need-returns-2
 returns-2 c =
-    let start = c .before .before .before .before .before .before .before .before .before .before .before .before .before .before .before .before .before .before in
+    let start = c .before .before .before .before .before .before .before .before .before .before .before .before .before .before .before .before .before in
     let found = c .before .before .before .before .before .before .before .before .before .before in
     let met = every-met (start .args .table) (start .pre .0) _ (start .pre .3) _ (found .before .parameters .ensures .0) (rw (c .before .before .before .before .before .before .before .before .enum-told .given .1) at (found .lowest-missed .ensures)) in
     report-written _ _ _ (start .pre .2) (start .pre .1) _ _ _ _ _ _ (front-names (start .args .table) _ (c .before .before .before .before .before .front .ensures)) (start .pre .3) met

@@ -17,7 +17,7 @@ term-rows-requires c κs = search needs
 
 solve-requires : tie.Need-solve-requires
 solve-requires c κs =
-    let start = c .before .before .before .before .before .before .before .before .before .before .before .before .before .before in
+    let start = c .before .before .before .before .before .before .before .before .before .before .before .before .before in
     let types = c .before .before .before .before .before .before .before .type-rows .ensures in
     let params = c .before .before .before .before .before .before .parameters .ensures in
     let terms = c .before .before .before .before .before .term-rows .ensures in
@@ -25,7 +25,7 @@ solve-requires c κs =
 
 returns : tie.Need-returns
 returns c =
-    let start = c .before .before .before .before .before .before .before .before .before .before .before .before .before .before .before in
+    let start = c .before .before .before .before .before .before .before .before .before .before .before .before .before .before in
     let types = c .before .before .before .before .before .before .before .before .type-rows .ensures in
     let params = c .before .before .before .before .before .before .before .parameters .ensures in
     let terms = c .before .before .before .before .before .before .term-rows .ensures in

@@ -32,9 +32,9 @@ add-if2 c = let few : Few (now (c .before .front .result)) = search (front-few, 
 
 returns-2 : tie.Need-returns-2
 returns-2 c = (
-  code-past _ _ _ _ (c .before .before .before .before .before .before .before .parameters .ensures .0) _
+  code-past _ _ _ _ (c .before .before .before .before .before .before .parameters .ensures .0) _
       (words-counted _ _ (c .before .before .front .ensures) _ (c .before .count .ensures))
-      (c .before .before .before .before .before .before .if1 .left) (c .if2 .taken),
+      (c .before .before .before .before .before .if1 .left) (c .if2 .taken),
   refl,
 )
 
@@ -57,10 +57,10 @@ element-set-from-param c = search needs
 
 returns-3 : tie.Need-returns-3
 returns-3 c = (
-  redeclare-stored (c .before .before .before .before .before .before .before .before .before .args .t1) _ _ _
-      (c .before .before .before .before .before .before .before .before .parameters .ensures .0) _
+  redeclare-stored (c .before .before .before .before .before .before .before .before .args .t1) _ _ _
+      (c .before .before .before .before .before .before .before .parameters .ensures .0) _
       (words-counted _ _ (c .before .before .before .front .ensures) _ (c .before .before .count .ensures))
-      (c .before .before .before .before .before .before .before .if1 .left) (c .before .if2 .left),
+      (c .before .before .before .before .before .before .if1 .left) (c .before .if2 .left),
   refl,
 )
 
