@@ -27,6 +27,7 @@ use Rattle.model.specs.declared.Field.the-variants.{Value}
 use Rattle.model.specs.declared.Line.the-variants.{NoForm}
 use Rattle.model.proofs.Answers.{session-same}
 use Rattle.model.proofs.Files.{six-file}
+use Rattle.model.proofs.LongFiles.{opened-front}
 use Rattle.model.proofs.LongLines.{reply-front}
 use Rattle.line.proofs.RoundTrip.{word-exactly}
 use Rattle.table.specs.Lists.{lists}
@@ -213,6 +214,10 @@ returned-under-determined = under-same
 
 pub returned-under-front : (file : List ℕ) {text buffer b : List ℕ} {n : ℕ} → ReturnsUnder file (take 25025 text) buffer n b → ReturnsUnder file text buffer n b
 returned-under-front = under-front
+
+-- A scheme file is decided by its first 113 bytes.
+pub file-front : (file : List ℕ) → opened (take 113 file) ≡ opened file
+file-front = opened-front
 
 -- "the built-in six are one instance": under the six's own file every text returns what `placement_report` returns.
 pub returned-under-six : {text buffer b : List ℕ} {n : ℕ} → ReturnsUnder six-file text buffer n b → Returns sixTable text buffer n b

@@ -2,17 +2,17 @@
 use Prim.Native.Nat.{ℕ, suc, _+_, _<_}
 use native.Mathlib.Omega.{arith}
 use native.Mathlib.Decide.{decLt}
-use mathlib.Core.Bool.{Bool, true, false, _||_, not, cond, or-assoc, or-false, false≢true}
+use mathlib.Core.Bool.{Bool, true, false, not, cond, false≢true}
 use mathlib.Core.List.{List, [], _∷_}
 use mathlib.Core.Path.{_≡_, refl, sym, ap, subst, _∙_}
 use lib.Dec.{eqb, leb}
-use lib.ListN.{length, getD}
+use lib.ListN.{length}
 use borrow.Author.Tests.{eqb-true, not-true}
 use Rattle.scheme.proofs.Every.{and-left, and-right}
-use Rattle.model.specs.Lists.{anyOf, allOf, contains, same, bytes}
+use Rattle.model.specs.Lists.{allOf, contains, same, bytes}
 use Rattle.model.specs.Number.{isDigit, numberOf}
 use Rattle.model.specs.Word.{qualifierWords, operationWords, spells, placeIn, wordOf, variableOf, qualifierOf, schemeOf, operationOf}
-use Rattle.model.specs.Line.{onto, fields, field, number, literal, qualifier, floor, scheme, operation, given, choose, exactly, tag, kind, intLine, anyLine, arrowLine, paramLine, lamLine, appLine, opLine, varLine, numLine, encLine, typeLine, leafLine, termLine, lineOf}
+use Rattle.model.specs.Line.{fields, field, number, literal, qualifier, floor, scheme, operation, given, choose, exactly, tag, kind, intLine, anyLine, arrowLine, paramLine, lamLine, appLine, opLine, varLine, numLine, encLine, typeLine, leafLine, termLine, lineOf}
 use Rattle.model.specs.declared.Field.{Field}
 use Rattle.model.specs.declared.Field.the-variants.{Value, NoValue}
 use Rattle.model.specs.declared.Line.{Line}

@@ -1,16 +1,15 @@
 -- Each exit of an infer call is one of the answers of document 01.
 use Prim.Native.Nat.{ℕ, zero, suc, _≤_, _<_}
 use native.Mathlib.Omega.{arith}
-use mathlib.Core.Bool.{Bool, true, false, not}
-use mathlib.Core.List.{List, [], _∷_, _++_}
+use mathlib.Core.Bool.{Bool, true, not}
+use mathlib.Core.List.{List, [], _∷_}
 use mathlib.Core.Path.{_≡_, refl, sym, ap, subst, subst₂}
-use lib.ListN.{length, take, drop}
+use lib.ListN.{length, take}
 use Rattle.model.specs.Machine.{Machine}
 use borrow.Author.Tests.{not-true}
 use Rattle.model.specs.Closed.{Closed}
-use Rattle.model.specs.Inference.{ruling, Slot, Shape, Cause, Refusal, FloorsMet, FloorMissed, Judged, not-closed, not-typable, below-floor, typed}
-use Rattle.model.specs.Report.{report}
-use Rattle.model.specs.Session.{Outcome, refusing, reporting, Infers, short, refused, accepted}
+use Rattle.model.specs.Inference.{ruling, Shape, Cause, Refusal, FloorsMet, FloorMissed, not-closed, not-typable, below-floor, typed}
+use Rattle.model.specs.Session.{refusing, Infers, short, refused, accepted}
 use Rattle.scheme.proofs.Schemes.{sound-short}
 use Rattle.schemes.specs.Schemes.{tableIn}
 use Rattle.model.specs.Line.{fields}
@@ -18,8 +17,8 @@ use Rattle.table.specs.Lists.{lists}
 use Rattle.table.specs.declared.Table.{Table}
 use Rattle.closed.specs.Decides.{Decides}
 use Rattle.setup.specs.Descriptors.{machineOf}
-use Rattle.report.specs.Codes.{Codes, wordOf, shapeOf}
-use Rattle.report.specs.Written.{Short, Matches, Written, reportOf}
+use Rattle.report.specs.Codes.{Codes, wordOf}
+use Rattle.report.specs.Written.{Short, Matches, Written}
 use Rattle.solver.specs.Runs.{Solves, Governed}
 use Rattle.solver.specs.declared.Answer.the-variants.{Placed}
 use Rattle.inference.specs.Outcome.{outcome}

@@ -1,13 +1,11 @@
 -- A call's answer is a function of the machine and its argument, and so is a whole list's.
-use Prim.Native.Nat.{ℕ, _≤_, _<_}
+use Prim.Native.Nat.{ℕ}
 use native.Mathlib.Omega.{arith}
-use mathlib.Core.List.{List, [], _∷_, _++_, map}
-use mathlib.Core.Path.{_≡_, refl, sym, ap, subst, _∙_}
-use lib.ListN.{length, drop}
-use Rattle.model.specs.Machine.{Machine, added, redeclared, takenBack}
-use Rattle.model.specs.Inference.{ruling, Slot, Shape, Judged}
-use Rattle.model.specs.Report.{report}
-use Rattle.model.specs.Session.{Call, Outcome, refusing, reporting, returning, Infers, short, refused, accepted, Answers, adds, redeclares, takes-back, infers, Session, done, next}
+use mathlib.Core.List.{List, map}
+use mathlib.Core.Path.{_≡_, refl, sym, ap, subst}
+use Rattle.model.specs.Machine.{Machine}
+use Rattle.model.specs.Inference.{ruling}
+use Rattle.model.specs.Session.{Call, Outcome, reporting, Infers, short, refused, accepted, Answers, adds, redeclares, takes-back, infers, Session, done, next}
 use Rattle.scheme.specs.Schemes.{Sound}
 use Rattle.model.proofs.Lawful.{sound-lawful}
 use Rattle.model.proofs.Keeps.{answers-keep}

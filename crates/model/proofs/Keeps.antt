@@ -1,9 +1,7 @@
 -- "no call changes it": every call leaves the machine's scheme table.
-use Prim.Native.Nat.{ℕ}
-use mathlib.Core.List.{List}
 use mathlib.Core.Path.{_≡_, refl}
 use Rattle.model.specs.Line.{lineOf}
-use Rattle.model.specs.Machine.{Machine, settled, entered, added, redeclared, takenBack}
+use Rattle.model.specs.Machine.{Machine, entered, added, redeclared, takenBack}
 use Rattle.model.specs.Session.{Call, Outcome, Answers, adds, redeclares, takes-back, infers}
 use Rattle.model.specs.declared.Line.{Line}
 use Rattle.model.specs.declared.Line.the-variants.{TypeLine, ParamLine, TermLine, NoForm}

@@ -1,6 +1,5 @@
 -- The schemes of a sound table are lawful: their order is antisymmetric, and different codes are different qualifiers.
-use Prim.Native.Nat.{ℕ, _<_}
-use mathlib.Core.Path.{_≡_, sym, ap, _∙_}
+use mathlib.Core.Path.{sym, ap, _∙_}
 use lib.ListN.{length}
 use Rattle.scheme.specs.Schemes.{SchemeTable, Sound}
 use Rattle.scheme.specs.Qualifier.{code}

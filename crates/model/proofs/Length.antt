@@ -2,7 +2,7 @@
 use Prim.Native.Nat.{ℕ, zero, suc, _+_, _≤_, _<_}
 use native.Mathlib.Omega.{arith}
 use mathlib.Core.Bool.{Bool, true, false, cond}
-use mathlib.Core.List.{List, [], _∷_, _++_}
+use mathlib.Core.List.{List, [], _∷_}
 use mathlib.Core.Path.{_≡_, refl}
 use lib.Dec.{leb}
 use lib.ListN.{length, getD, length-append}
@@ -14,7 +14,7 @@ use Rattle.model.specs.Number.{decimal}
 use Rattle.model.specs.Word.{qualifierWords, qualifierWord}
 use Rattle.model.specs.Machine.{Machine}
 use Rattle.model.specs.Inference.{Slot, variable, param, row, Shape, mentions}
-use Rattle.model.specs.Report.{joined, line, lines, shapeWord, variableLine, paramLine, rowLine, report}
+use Rattle.model.specs.Report.{line, lines, shapeWord, variableLine, paramLine, rowLine, report}
 use Rattle.model.proofs.Limits.{Within}
 
 -- The sum of n bounds, for the numbers from i on.

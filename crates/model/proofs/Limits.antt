@@ -1,17 +1,17 @@
 -- The machine's lists never pass 64, 64 and 256: an add to a full list is refused with 3.
-use Prim.Native.Nat.{ℕ, _+_, _-_, _≤_, _<_}
+use Prim.Native.Nat.{ℕ, _+_, _≤_}
 use native.Mathlib.Omega.{arith}
 use mathlib.Core.Bool.{Bool, true}
-use mathlib.Core.List.{List, [], _∷_, _++_}
-use mathlib.Core.Path.{_≡_, refl}
+use mathlib.Core.List.{List, _∷_}
+use mathlib.Core.Path.{_≡_}
 use lib.Dec.{ltb, leb}
 use Rattle.scheme.specs.Schemes.{SchemeTable, Sound}
 use Rattle.scheme.proofs.Schemes.{sound-short}
 use Rattle.model.specs.Lists.{allOf}
-use lib.ListN.{length, set, take, length-append, length-take, length-set}
+use lib.ListN.{length, length-append, length-take, length-set}
 use borrow.Author.Tests.{ltb-true}
 use Rattle.model.specs.Line.{lineOf}
-use Rattle.model.specs.Machine.{Machine, freshMachine, settled, firstFailing, paramAt, typeRefusal, paramRefusal, termRefusal, entered, added, redeclared, takenBack}
+use Rattle.model.specs.Machine.{Machine, freshMachine, firstFailing, typeRefusal, paramRefusal, termRefusal, entered, added, redeclared, takenBack}
 use Rattle.model.specs.WellFormed.{WellFormed}
 use Rattle.model.specs.Session.{Call, Outcome, Answers, adds, redeclares, takes-back, infers}
 use Rattle.model.specs.declared.Line.{Line}

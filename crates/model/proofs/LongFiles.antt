@@ -9,13 +9,13 @@ use lib.Dec.{eqb, leb}
 use lib.ListN.{length, getD, take, length-take}
 use lib.Seq.{take-all}
 use borrow.Author.Tests.{eqb-true, leb-true}
-use Rattle.scheme.specs.Schemes.{fitting, bitsDiffer, hasMeets, hasHighest}
+use Rattle.scheme.specs.Schemes.{fitting, bitsDiffer}
 use Rattle.scheme.specs.Six.{sixTable}
 use Rattle.scheme.proofs.Schemes.{name-short}
 use Rattle.scheme.proofs.Every.{and-left, and-right}
 use Rattle.model.specs.Lists.{allOf, same, bytes}
 use Rattle.model.specs.Line.{onto, fields, field, linesOf}
-use Rattle.model.specs.Machine.{Change, firstFailing, freshMachine}
+use Rattle.model.specs.Machine.{firstFailing, freshMachine}
 use Rattle.model.specs.SchemeFile.{isName, isBit, isBits, isSchemeLine, tableOf, namesDiffer, wellWritten, schemeRefusal, openedWith, opened}
 use Rattle.model.proofs.Lists.{same-bytes}
 use Rattle.model.proofs.Opened.{line-name, line-bits}

@@ -16,7 +16,6 @@ use Rattle.model.specs.Line.{choose, lineOf}
 use Rattle.model.specs.Machine.{Machine, Change, settled, entered, added}
 use Rattle.model.specs.Report.{line}
 use Rattle.model.specs.Session.{adds}
-use Rattle.model.specs.SchemeFile.{opened}
 use Rattle.model.specs.Script.{Command, begins, beforeBlank, afterBlank, argument, redeclareOf, fileIn, commandOf, Makes, restarted, unknown, Replies}
 use Rattle.model.specs.Script as Script
 use Rattle.model.specs.declared.Field.{Field}

@@ -7,7 +7,6 @@ use lib.ListN.{length}
 use lib.Seq.{take-append-seam}
 use borrow.Author.Tests.{ne-eqb}
 use Rattle.scheme.specs.Schemes.{Sound}
-use Rattle.scheme.specs.Six.{sixTable}
 use Rattle.scheme.proofs.Six.{six-sound}
 use Rattle.model.specs.Lists.{bytes}
 use Rattle.model.specs.Number.{decimal}
@@ -16,7 +15,6 @@ use Rattle.model.specs.SchemeFile.{opened}
 use Rattle.model.specs.Inference.{ruling}
 use Rattle.model.specs.Report.{line, report}
 use Rattle.model.specs.Session.{Call, Outcome, Infers, short, refused, accepted, Answers, infers}
-use Rattle.model.specs.Line.{linesOf}
 use Rattle.model.specs.Script.{Command, commandOf, Makes, shown, answer, restarted, Replies, Dialogue, Conversation}
 use Rattle.model.specs.Script as Script
 use Rattle.model.proofs.Lawful.{sound-lawful}

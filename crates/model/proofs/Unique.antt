@@ -1,20 +1,19 @@
 -- Two answers of one call on one machine are the same: a refusal's row or parameter is the least, and words are greatest and attained.
 use Prim.Native.Nat.{ℕ, zero, suc, _+_, _≤_, _<_}
 use native.Mathlib.Omega.{arith}
-use native.Mathlib.Decide.{ℕ-discrete, decLt}
-use mathlib.Core.Bool.{Bool, true, false, cond}
-use mathlib.Core.List.{List, [], _∷_, _++_}
-use mathlib.Core.Path.{_≡_, refl, sym, ap, ap₂, subst, _∙_}
-use lib.ListN.{length, drop}
-use Rattle.model.specs.Machine.{Machine, added, redeclared, takenBack}
+use native.Mathlib.Decide.{decLt}
+use mathlib.Core.Bool.{Bool, true, false}
+use mathlib.Core.List.{List, _++_}
+use mathlib.Core.Path.{_≡_, refl, sym, ap₂, subst}
+use lib.ListN.{length}
+use Rattle.model.specs.Machine.{Machine}
 use Rattle.scheme.specs.Schemes.{words}
-use Rattle.model.specs.Closed.{Closed}
-use Rattle.model.specs.Typing.{Ty, Assignment, Typing, Typable}
-use Rattle.model.specs.Strength.{Schemes, whole, unordered, erased}
-use Rattle.model.specs.Inference.{ruling, Cause, shapes, qualifiers, bounds, Refusal, Slot, variable, param, row, Listed, qualifierOf, typeOf, IsInt, is-int, IsArrow, is-arrow, Shape, Types, ShapeSays, GreatestTyping, MeetsFloor, WordMeetsFloor, FloorsMet, FloorMissed, Judged, not-closed, not-typable, below-floor, typed, mentions}
+use Rattle.model.specs.Typing.{Ty, Assignment}
+use Rattle.model.specs.Strength.{Schemes}
+use Rattle.model.specs.Inference.{ruling, Cause, shapes, qualifiers, bounds, Refusal, Slot, variable, param, row, Listed, IsInt, is-int, IsArrow, is-arrow, Shape, Types, ShapeSays, GreatestTyping, MeetsFloor, WordMeetsFloor, FloorsMet, FloorMissed, Judged, not-closed, not-typable, below-floor, typed, mentions}
 use Rattle.model.specs.Report.{report, lines, variableLine, paramLine, rowLine}
 use Rattle.model.proofs.Fewer.{typable-fewer}
-use Rattle.model.proofs.Weaker.{weaker-rules, whole-unordered, unordered-erased}
+use Rattle.model.proofs.Weaker.{weaker-rules, unordered-erased}
 
 -- What uniqueness needs of the schemes.
 pub record Lawful (S : Schemes) : Type 0 where

@@ -1,11 +1,10 @@
 -- The file of an owner's scheme table.
 -- Document 02, d).
-use Prim.Native.Nat.{ℕ, suc}
-use mathlib.Core.Bool.{Bool, true, false, not, _&&_, cond}
+use Prim.Native.Nat.{ℕ}
+use mathlib.Core.Bool.{Bool, _&&_, cond}
 use mathlib.Core.List.{List, [], _∷_, map}
-use mathlib.Core.Path.{_≡_}
 use lib.Dec.{eqb, leb}
-use lib.ListN.{length, getD}
+use lib.ListN.{length}
 pub use Rattle.scheme.specs.Schemes.{isCapital}
 unfoldable pub use Rattle.scheme.specs.Schemes.{isName, namesDiffer}
 use Rattle.scheme.specs.Schemes.{SchemeTable, fitting, bitsDiffer, hasMeets, hasHighest}

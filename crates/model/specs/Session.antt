@@ -4,7 +4,7 @@ use Prim.Native.Nat.{ℕ, _≤_, _<_}
 use mathlib.Core.List.{List, [], _∷_, _++_}
 use mathlib.Core.Path.{_≡_}
 use lib.ListN.{length, drop}
-use Rattle.model.specs.Machine.{Machine, Change, added, redeclared, takenBack}
+use Rattle.model.specs.Machine.{Machine, added, redeclared, takenBack}
 use Rattle.model.specs.Inference.{ruling, Slot, Shape, Judged}
 use Rattle.model.specs.Report.{report}
 

@@ -2,7 +2,7 @@
 -- No sentence of document 01 names this; it follows from the reader and the checks 3 to 8, and inference rests on it.
 use Prim.Native.Nat.{ℕ, _+_, _≤_, _<_}
 use mathlib.Core.Bool.{true}
-use mathlib.Core.List.{List, [], _∷_}
+use mathlib.Core.List.{[], _∷_}
 use mathlib.Core.Path.{_≡_}
 use lib.ListN.{length}
 use Rattle.scheme.specs.Schemes.{words, Sound}

@@ -1,7 +1,7 @@
 -- The words of a line and of the report, with their codes.
 -- Document 01, "Schemes and their order" and "Lines and the table"; document 02, a), c) and d).
 use Prim.Native.Nat.{ℕ, _+_, _-_}
-use mathlib.Core.Bool.{Bool, true, false, _&&_, cond}
+use mathlib.Core.Bool.{Bool, _&&_, cond}
 use mathlib.Core.List.{List, [], _∷_, map}
 use lib.Dec.{eqb, leb}
 use lib.ListN.{length, getD}

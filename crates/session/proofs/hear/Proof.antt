@@ -1,5 +1,5 @@
 -- Each turn leaves fewer bytes of the part.
-use Prim.Native.Nat.{_-_, _*_, _^_, _<_}
+use Prim.Native.Nat.{_-_}
 use borrow.Author.Needs.{needs}
 use lib.ListN.{length}
 use Rattle.lines.proofs.Lines.{end-bound, end-fits}

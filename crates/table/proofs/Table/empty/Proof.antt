@@ -1,6 +1,5 @@
 -- Nothing is taken of an array whose count is 0.
 use mathlib.Core.Path.{refl}
-use borrow.Author.Needs.{needs}
 use Rattle.table.specs.Lists.{lists}
 use Rattle.table.proofs.Table.empty.Statement.{statement}
 use Rattle.table.proofs.Table.empty.Tie as tie
