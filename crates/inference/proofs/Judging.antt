@@ -53,7 +53,9 @@ module _ (t : Table) (text : List ℕ) (is : text ≡ take (t .schemes .size) (t
   front-names = ap fields (sym is)
 
   pub front-short : Ready t → Short (fields text)
-  front-short ready = rw (front-names) at (sound-short (ready .well-formed .schemes-sound))
+  front-short ready =
+      let sound = ready .well-formed .schemes-sound in
+      rw (← front-names) (record { few = sound .few; short = sound-short sound })
 
 -- A refusal's three numbers, with the buffer as it was.
 refuses-is : (r : Inferred) (number row : ℕ) (buffer : List ℕ) → (r .number ≡ number) × (r .row ≡ row) × (r .size ≡ 0) → refusing number row buffer ≡ outcome r buffer

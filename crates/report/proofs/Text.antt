@@ -1,7 +1,7 @@
 -- The text that `write` writes, from the codes alone, is the report of every machine that they match.
 use Prim.Native.Nat.{ℕ, zero, suc, _+_, _<_}
 use native.Mathlib.Omega.{arith}
-use mathlib.Core.List.{List, [], _∷_, _++_}
+use mathlib.Core.List.{List, _++_}
 use mathlib.Core.Path.{_≡_, refl, sym, ap, _∙_}
 use lib.ListN.{length, getD}
 use lib.Seq.{sets-eq}
@@ -10,7 +10,7 @@ use Rattle.model.specs.Machine.{Machine}
 use Rattle.model.specs.Word.{qualifierWord}
 use Rattle.model.specs.Report.{lines, variableLine, paramLine, rowLine, report}
 use Rattle.report.specs.Codes.{Codes, wordOf, shapeOf}
-use Rattle.report.specs.Writing.{Room, Wrote, Spelled, Bytes, wordsIn, pairText, variableText, slotText, variableAt, slotAt}
+use Rattle.report.specs.Writing.{Room, Wrote, Spelled, wordsIn, pairText, variableText, slotText, variableAt, slotAt}
 use Rattle.report.specs.Written.{Matches, reportOf, Written}
 use Rattle.report.proofs.Writing.{room-first, room-rest, wrote-both}
 
@@ -38,32 +38,25 @@ module _ (c : Codes) (params rows : ℕ) (m : Machine) (matched : Matches m c pa
   pub is-report : (names : List (List ℕ)) → m .schemes .names ≡ names → reportOf m c ≡ text names c params rows
   is-report names named = own-names ∙ ap (λ (l : List (List ℕ)). text l c params rows) named
 
--- A byte of a list, whatever stands for what it has not.
-byte-at : (l : List ℕ) (k d : ℕ) → Bytes l → d < 256 → getD l k d < 256
-byte-at [] k d b h = h
-byte-at (x ∷ l) zero d b h = b 0
-byte-at (x ∷ l) (suc k) d b h = byte-at l k d (λ i. b (suc i)) h
-
 -- The words of a table give the text of the names that it spells.
 module _ (table : List ℕ) (names : List (List ℕ)) (spelled : Spelled table names) where
-  same-word : (code : ℕ) → code < 256 → qualifierWord (wordsIn 256 table) code ≡ qualifierWord names code
+  same-word : (code : ℕ) → qualifierWord (wordsIn table) code ≡ qualifierWord names code
   unfolding qualifierWord
-  same-word zero h = refl
-  same-word (suc k) h = spelled k (omega arith)
+  same-word zero = refl
+  same-word (suc k) = spelled k
 
-  same-variables : (variables : List ℕ) → Bytes variables → lines (variableAt (wordsIn 256 table) variables) 0 64 ≡ lines (variableAt names variables) 0 64
+  same-variables : (variables : List ℕ) → lines (variableAt (wordsIn table) variables) 0 64 ≡ lines (variableAt names variables) 0 64
   unfolding variableText
-  same-variables variables b = lines-same _ _ 0 64 (λ k h. rw (same-word (getD variables k 9) (byte-at variables k 9 b (omega arith))))
+  same-variables variables = lines-same _ _ 0 64 (λ k h. rw (same-word (getD variables k 9)))
 
-  same-slots : (tag : ℕ) (codes shapes : List ℕ) (n : ℕ) → Bytes codes → lines (slotAt (wordsIn 256 table) tag codes shapes) 0 n ≡ lines (slotAt names tag codes shapes) 0 n
+  same-slots : (tag : ℕ) (codes shapes : List ℕ) (n : ℕ) → lines (slotAt (wordsIn table) tag codes shapes) 0 n ≡ lines (slotAt names tag codes shapes) 0 n
   unfolding slotText
-  same-slots tag codes shapes n b = lines-same _ _ 0 n (λ k h. rw (same-word (getD codes k 0) (b k)))
+  same-slots tag codes shapes n = lines-same _ _ 0 n (λ k h. rw (same-word (getD codes k 0)))
 
-  pub same-text : (c : Codes) (params rows : ℕ) → Bytes (c .variables) → Bytes (c .paramWords) → Bytes (c .rowWords)
-      → text (wordsIn 256 table) c params rows ≡ text names c params rows
+  pub same-text : (c : Codes) (params rows : ℕ) → text (wordsIn table) c params rows ≡ text names c params rows
   unfolding text
-  same-text c params rows b p r =
-      rw (same-variables (c .variables) b, same-slots 80 (c .paramWords) (c .paramShapes) params p, same-slots 69 (c .rowWords) (c .rowShapes) rows r)
+  same-text c params rows =
+      rw (same-variables (c .variables), same-slots 80 (c .paramWords) (c .paramShapes) params, same-slots 69 (c .rowWords) (c .rowShapes) rows)
 
 -- The four parts of the text in turn: each has room once those before it are written, and with the last of them the report is written.
 module _ (names : List (List ℕ)) (c : Codes) (params rows : ℕ) {l : List ℕ} (room : Room l 0 (text names c params rows)) where

@@ -92,7 +92,7 @@ module _ (names : List (List ℕ)) (short : Short names) (c : Codes) (params row
       types = omega (arith, naming-length 64 listed start);
       params = omega (arith, matching .params-counted);
       terms = omega (arith, matching .rows-counted);
-      names = short;
+      names = short .short;
     }
 
     -- A buffer that is long enough for any report has room for the text.

@@ -2,15 +2,16 @@
 use Prim.Native.Nat.{ℕ, zero, suc, _+_, _-_, _*_, _≤_, _<_}
 use native.Mathlib.Omega.{arith}
 use mathlib.Core.Bool.{true}
-use mathlib.Core.List.{List, [], _++_}
+use mathlib.Core.List.{List, [], _∷_, _++_}
 use mathlib.Core.Path.{_≡_, refl, ap, sym, _∙_}
 use lib.Dec.{leb}
-use lib.ListN.{length, getD, take, drop}
+use lib.ListN.{length, getD, take, drop, set}
 use borrow.Author.Tests.{leb-true}
 use Rattle.model.specs.Lists.{bytes}
 use Rattle.model.specs.Word.{qualifierWord}
 use Rattle.report.specs.Writing.{Room, Wrote, Spells, wordsIn}
-use Rattle.report.proofs.Tables.{sizeAt, words-at}
+use Rattle.report.proofs.Tables.{sizeAt, words-at, words-past}
+use Rattle.report.proofs.Writing.{wrote-byte}
 
 -- A code that a match found to be none of the first n numbers is at least n.
 abbrev pub NoneOf : ℕ → ℕ → Type 0
@@ -51,18 +52,29 @@ module _ {l : List ℕ} {i : ℕ} (names : List (List ℕ)) (code : ℕ) (end : 
   pub plain-wrote : {l′ : List ℕ} {i′ : ℕ} → Wrote l i (bytes "PLAIN" ++ end) l′ i′ → Wrote l i (qualifierWord names code ++ end) l′ i′
   plain-wrote p = rw (plain-word names code e) p
 
-module _ (t : List ℕ) (code : ℕ) (h : code ≡ 0 → ⊥) (below : code < 256) where
+-- Past the eight words of the table it is empty.
+module _ (t : List ℕ) (code : ℕ) (past : 8 < code) where
+  no-word : qualifierWord (wordsIn t) code ≡ []
+  no-word = named-word (wordsIn t) code (λ e. omega arith) ∙ words-past 8 (code - 1) t (omega arith)
+
+  pub no-word-room : {l : List ℕ} {i : ℕ} (end : ℕ) → Room l i (qualifierWord (wordsIn t) code ++ (end ∷ [])) → i < length l
+  no-word-room end p = omega (arith, (rw no-word at p) .fits)
+
+  pub no-word-wrote : (l : List ℕ) (i end : ℕ) → Wrote l i (qualifierWord (wordsIn t) code ++ (end ∷ [])) (set l i end) (i + 1)
+  no-word-wrote l i end = rw no-word (wrote-byte l i end)
+
+module _ (t : List ℕ) (code : ℕ) (h : code ≡ 0 → ⊥) (below : code ≤ 8) where
   -- The bytes of the table from the word's first to its last.
   abbrev part : List ℕ
   part = take (8 * (code - 1) + sizeAt t (code - 1) - 8 * (code - 1)) (drop (8 * (code - 1)) t)
 
-  part-word : qualifierWord (wordsIn 256 t) code ≡ part
+  part-word : qualifierWord (wordsIn t) code ≡ part
   part-word =
       let e : 8 * (code - 1) + sizeAt t (code - 1) - 8 * (code - 1) ≡ sizeAt t (code - 1) = omega arith in
-      named-word (wordsIn 256 t) code h ∙ words-at 256 (code - 1) t (omega arith) ∙ rw e refl
+      named-word (wordsIn t) code h ∙ words-at 8 (code - 1) t (omega arith) ∙ rw e refl
 
-  pub tabled-room : {l : List ℕ} {i : ℕ} (end : List ℕ) → Room l i (qualifierWord (wordsIn 256 t) code ++ end) → Room l i (part ++ end)
+  pub tabled-room : {l : List ℕ} {i : ℕ} (end : List ℕ) → Room l i (qualifierWord (wordsIn t) code ++ end) → Room l i (part ++ end)
   tabled-room end p = rw part-word at p
 
-  pub tabled-wrote : {l l′ : List ℕ} {i i′ : ℕ} (end : List ℕ) → Wrote l i (part ++ end) l′ i′ → Wrote l i (qualifierWord (wordsIn 256 t) code ++ end) l′ i′
+  pub tabled-wrote : {l l′ : List ℕ} {i i′ : ℕ} (end : List ℕ) → Wrote l i (part ++ end) l′ i′ → Wrote l i (qualifierWord (wordsIn t) code ++ end) l′ i′
   tabled-wrote end p = rw part-word p

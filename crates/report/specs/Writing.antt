@@ -32,22 +32,22 @@ pub record Spells (array : List ℕ) (size : ℕ) (word : List ℕ) : Type 0 whe
   pub room : size ≤ length array
 
 -- The first n words of a table: eight bytes each, of which the last says how many its word has.
-unfoldable pub wordsIn : ℕ → List ℕ → List (List ℕ)
-wordsIn zero table = []
-wordsIn (suc n) table = take (getD table 7 0) table ∷ wordsIn n (drop 8 table)
+unfoldable pub firstWords : ℕ → List ℕ → List (List ℕ)
+firstWords zero table = []
+firstWords (suc n) table = take (getD table 7 0) table ∷ firstWords n (drop 8 table)
 
--- A table of 256 words, none of them longer than five bytes.
+-- The words of a table of eight.
+abbrev pub wordsIn : List ℕ → List (List ℕ)
+wordsIn table = firstWords 8 table
+
+-- A table of eight words, none of them longer than five bytes.
 pub record Tabled (table : List ℕ) : Type 0 where
-  pub long : length table ≡ 2048
-  pub sized : (k : ℕ) → k < 256 → getD table (8 * k + 7) 0 ≤ 5
+  pub long : length table ≡ 64
+  pub sized : (k : ℕ) → k < 8 → getD table (8 * k + 7) 0 ≤ 5
 
--- The table has these words.
+-- The table has these words, and the empty word behind them.
 abbrev pub Spelled : List ℕ → List (List ℕ) → Type 0
-Spelled table words = (k : ℕ) → k < 256 → getD (wordsIn 256 table) k [] ≡ getD words k []
-
--- Each number is a byte.
-abbrev pub Bytes : List ℕ → Type 0
-Bytes l = (i : ℕ) → getD l i 0 < 256
+Spelled table words = (k : ℕ) → getD (wordsIn table) k [] ≡ getD words k []
 
 -- `OK,parameters,rows`, and the other lines of a word and two numbers
 unfoldable pub pairText : List ℕ → ℕ → ℕ → List ℕ

@@ -1,6 +1,6 @@
 -- What `write` leaves in the buffer, and what it returns.
 -- Document 01, "The report".
-use Prim.Native.Nat.{ℕ, _+_, _<_}
+use Prim.Native.Nat.{ℕ, _+_, _≤_, _<_}
 use mathlib.Core.Bool.{true}
 use mathlib.Core.List.{List, _++_}
 use mathlib.Core.Path.{_≡_}
@@ -13,9 +13,10 @@ use Rattle.model.specs.Inference.{mentions}
 use Rattle.model.specs.Report.{report}
 use Rattle.report.specs.Codes.{Codes, wordOf, shapeOf}
 
--- No scheme's name is longer than five bytes.
-abbrev pub Short : List (List ℕ) → Type 0
-Short names = allOf (λ s. leb (length s) 5) names ≡ true
+-- There are at most eight schemes' names, and none is longer than five bytes.
+pub record Short (names : List (List ℕ)) : Type 0 where
+  pub few : length names ≤ 8
+  pub short : allOf (λ s. leb (length s) 5) names ≡ true
 
 -- The codes and the counts match a machine: it has that many parameters and rows, and mentions just the variables that have a word's code.
 pub record Matches (m : Machine) (c : Codes) (params rows : ℕ) : Type 0 where

@@ -8,14 +8,14 @@ ghost use Rattle.model.specs.Line.{fields};
 ghost use Rattle.model.specs.Word.{qualifierWord};
 ghost use Rattle.model.specs.Report.{lines, shapeWord};
 ghost use Rattle.report.specs.Codes.{shapeOfCode, codesOf};
-ghost use Rattle.report.specs.Writing.{Room, Wrote, Spells, Tabled, Spelled, Bytes, wordsIn, pairText, variableText, slotText, variableAt, slotAt};
+ghost use Rattle.report.specs.Writing.{Room, Wrote, Spells, Tabled, Spelled, wordsIn, pairText, variableText, slotText, variableAt, slotAt};
 ghost use Rattle.report.specs.Written.{Short, Written};
 
 // A word of the report: bytes that begin with it, and how many of them it has.
 struct Word([u8; 5], usize);
 
-// The room of 256 words, as many as a byte can be the code of: eight bytes each, of which the last says how many its word has.
-const WORDS: usize = 2048;
+// The room of eight words, since no scheme table has more names: eight bytes each, of which the last says how many its word has.
+const WORDS: usize = 64;
 
 // The table of the names, so that a name is found once and not for each slot.
 fn word_table(names: &[u8]) -> [u8; WORDS]
@@ -27,9 +27,6 @@ fn word_table(names: &[u8]) -> [u8; WORDS]
     let mut i = 0;
     while i < names.len() {
         if names[i] == b',' {
-            if k == 255 {
-                return words;
-            }
             k += 1;
             i += 1;
         } else {
@@ -113,11 +110,16 @@ fn write_word(buffer: &mut [u8], at: usize, word: Word, end: u8) -> usize
 
 // Writes the word of a qualifier's code and the byte that ends its field: PLAIN, or the word of the table that stands before its code.
 fn write_qualifier(buffer: &mut [u8], at: usize, words: &[u8], code: u8, end: u8) -> usize
-    requires { ⌜ Tabled (now words) × Room (now buffer) at (qualifierWord (wordsIn 256 (now words)) code ++ (end ∷ [])) ⌝ }
-    ensures { λ r. ⌜ Wrote (now (buffer .entry)) at (qualifierWord (wordsIn 256 (now (words .entry))) code ++ (end ∷ [])) (now (buffer .exit)) r ⌝ }
+    requires { ⌜ Tabled (now words) × Room (now buffer) at (qualifierWord (wordsIn (now words)) code ++ (end ∷ [])) ⌝ }
+    ensures { λ r. ⌜ Wrote (now (buffer .entry)) at (qualifierWord (wordsIn (now (words .entry))) code ++ (end ∷ [])) (now (buffer .exit)) r ⌝ }
 {
     if code == 0 {
         return write_field(buffer, at, b"PLAIN", end);
+    }
+    // Past the table a code has the empty word.
+    if code > 8 {
+        buffer[at] = end;
+        return at + 1;
     }
     let from = 8 * (code as usize - 1);
     let size = words[from + 7] as usize;
@@ -153,8 +155,8 @@ fn write_counts(buffer: &mut [u8], at: usize, params: usize, rows: usize) -> usi
 
 // Writes the line of a variable whose code is a word's.
 fn write_variable(buffer: &mut [u8], at: usize, words: &[u8], k: usize, code: u8) -> usize
-    requires { ⌜ Tabled (now words) × Room (now buffer) at (variableText (wordsIn 256 (now words)) k code) ⌝ }
-    ensures { λ r. ⌜ Wrote (now (buffer .entry)) at (variableText (wordsIn 256 (now (words .entry))) k code) (now (buffer .exit)) r ⌝ }
+    requires { ⌜ Tabled (now words) × Room (now buffer) at (variableText (wordsIn (now words)) k code) ⌝ }
+    ensures { λ r. ⌜ Wrote (now (buffer .entry)) at (variableText (wordsIn (now (words .entry))) k code) (now (buffer .exit)) r ⌝ }
 {
     if code < 9 {
         let number = write_field(buffer, at, b"G", b',');
@@ -174,8 +176,8 @@ fn write_slot(
     code: u8,
     shape: u8,
 ) -> usize
-    requires { ⌜ Tabled (now words) × Room (now buffer) at (slotText (wordsIn 256 (now words)) tag i code shape) ⌝ }
-    ensures { λ r. ⌜ Wrote (now (buffer .entry)) at (slotText (wordsIn 256 (now (words .entry))) tag i code shape) (now (buffer .exit)) r ⌝ }
+    requires { ⌜ Tabled (now words) × Room (now buffer) at (slotText (wordsIn (now words)) tag i code shape) ⌝ }
+    ensures { λ r. ⌜ Wrote (now (buffer .entry)) at (slotText (wordsIn (now (words .entry))) tag i code shape) (now (buffer .exit)) r ⌝ }
 {
     let letter = [tag];
     let number = write_field(buffer, at, &letter, b',');
@@ -184,10 +186,10 @@ fn write_slot(
     write_shape(buffer, last, shape, b'\n')
 }
 
-// Writes the lines of the variables, rising. The caller is told that the codes are bytes, which is known of a slice and not of a lent array.
+// Writes the lines of the variables, rising.
 fn write_variables(buffer: &mut [u8], at: usize, words: &[u8], variables: &[u8]) -> usize
-    requires { ⌜ Tabled (now words) × (64 ≤ length (now variables)) × Room (now buffer) at (lines (variableAt (wordsIn 256 (now words)) (now variables)) 0 64) ⌝ }
-    ensures { λ r. ⌜ Wrote (now (buffer .entry)) at (lines (variableAt (wordsIn 256 (now (words .entry))) (now (variables .entry))) 0 64) (now (buffer .exit)) r × Bytes (now (variables .entry)) ⌝ }
+    requires { ⌜ Tabled (now words) × (64 ≤ length (now variables)) × Room (now buffer) at (lines (variableAt (wordsIn (now words)) (now variables)) 0 64) ⌝ }
+    ensures { λ r. ⌜ Wrote (now (buffer .entry)) at (lines (variableAt (wordsIn (now (words .entry))) (now (variables .entry))) 0 64) (now (buffer .exit)) r ⌝ }
 {
     let mut next = at;
     let mut k = 0;
@@ -198,7 +200,7 @@ fn write_variables(buffer: &mut [u8], at: usize, words: &[u8], variables: &[u8])
     next
 }
 
-// Writes the lines of the first parameters or rows; the same is told of their codes.
+// Writes the lines of the first parameters or rows.
 fn write_slots(
     buffer: &mut [u8],
     at: usize,
@@ -208,8 +210,8 @@ fn write_slots(
     shapes: &[u8],
     count: usize,
 ) -> usize
-    requires { ⌜ Tabled (now words) × (count ≤ length (now codes)) × (count ≤ length (now shapes)) × Room (now buffer) at (lines (slotAt (wordsIn 256 (now words)) tag (now codes) (now shapes)) 0 count) ⌝ }
-    ensures { λ r. ⌜ Wrote (now (buffer .entry)) at (lines (slotAt (wordsIn 256 (now (words .entry))) tag (now (codes .entry)) (now (shapes .entry))) 0 count) (now (buffer .exit)) r × Bytes (now (codes .entry)) ⌝ }
+    requires { ⌜ Tabled (now words) × (count ≤ length (now codes)) × (count ≤ length (now shapes)) × Room (now buffer) at (lines (slotAt (wordsIn (now words)) tag (now codes) (now shapes)) 0 count) ⌝ }
+    ensures { λ r. ⌜ Wrote (now (buffer .entry)) at (lines (slotAt (wordsIn (now (words .entry))) tag (now (codes .entry)) (now (shapes .entry))) 0 count) (now (buffer .exit)) r ⌝ }
 {
     let mut next = at;
     let mut i = 0;

@@ -1,10 +1,9 @@
 -- The names before name k are whole, and the rest of the text has what the others lack.
 use Prim.Native.Nat.{_-_, _<_}
 use native.Mathlib.Omega.{arith}
-use borrow.Author.Needs.{needs}
 use lib.ListN.{length, drop}
 use Rattle.model.specs.Line.{fields}
-use Rattle.report.proofs.Tables.{sizeAt, Making, making-none, walked, walk-full, walk-comma, walk-room, walk-letter}
+use Rattle.report.proofs.Tables.{sizeAt, Making, making-none, walked, walk-comma, walk-room, walk-letter}
 use Rattle.report.proofs.word_table.Statement.{statement}
 use Rattle.report.proofs.word_table.Tie as tie
 
@@ -15,13 +14,10 @@ abbrev μ-loop : tie.MeasureT-loop
 μ-loop names words₀ k₀ i₀ words k i = length names - i
 
 loop-holds : tie.Need-loop-holds Inv-loop μ-loop
-loop-holds c = making-none _
+loop-holds c = making-none _ (c .pre)
 
 shared-slice-read-if1 : tie.Need-shared-slice-read-if1 Inv-loop μ-loop
 shared-slice-read-if1 c = omega arith
-
-returns : tie.Need-returns Inv-loop μ-loop
-returns c = walk-full _ _ _ _ (c .before .before .before .before .loop .inv) (c .before .before .before .loop-test .taken) (c .before .if1 .taken) (c .if2 .taken)
 
 add-k : tie.Need-add-k Inv-loop μ-loop
 add-k c = omega arith
@@ -33,7 +29,7 @@ loop-less : tie.Need-loop-less Inv-loop μ-loop
 loop-less c = omega arith
 
 loop-again : tie.Need-loop-again Inv-loop μ-loop
-loop-again c = walk-comma _ _ _ _ (c .before .before .before .before .loop .inv) (c .before .before .before .loop-test .taken) (c .before .if1 .taken) (c .if2 .left)
+loop-again c = walk-comma _ (c .before .before .before .before .pre) _ _ _ (c .before .before .before .loop .inv) (c .before .before .loop-test .taken) (c .if1 .taken)
 
 mul-last : tie.Need-mul-last Inv-loop μ-loop
 mul-last c = omega arith
@@ -52,7 +48,7 @@ mul-words c = omega arith
 
 -- There is room for the letter.
 room : (c : tie.After-shared-slice-known2 Inv-loop μ-loop) → sizeAt (c .before .before .before .before .loop .words) (c .before .before .before .before .loop .k) < 5
-room c = walk-room _ _ _ _ (c .before .before .before .before .loop .inv) (c .before .before .before .loop-test .taken) (c .before .before .before .before .before .pre) (c .before .if1 .left)
+room c = walk-room _ (c .before .before .before .before .before .pre) _ _ _ (c .before .before .before .before .loop .inv) (c .before .before .before .loop-test .taken) (c .before .if1 .left)
 
 cast-words : tie.Need-cast-words Inv-loop μ-loop
 cast-words c = omega (arith, room c)
@@ -76,10 +72,10 @@ loop-less-2 : tie.Need-loop-less-2 Inv-loop μ-loop
 loop-less-2 c = omega arith
 
 loop-again-2 : tie.Need-loop-again-2 Inv-loop μ-loop
-loop-again-2 c = walk-letter _ _ _ _ (c .before .before .before .before .loop .inv) (c .before .before .before .loop-test .taken) (c .before .before .before .before .before .pre) (c .before .if1 .left)
+loop-again-2 c = walk-letter _ (c .before .before .before .before .before .pre) _ _ _ (c .before .before .before .before .loop .inv) (c .before .before .before .loop-test .taken) (c .before .if1 .left)
 
-returns-2 : tie.Need-returns-2 Inv-loop μ-loop
-returns-2 c = walked _ _ _ _ (c .before .loop .inv) (c .loop-test .left)
+returns : tie.Need-returns Inv-loop μ-loop
+returns c = walked _ (c .before .before .pre) _ _ _ (c .before .loop .inv) (c .loop-test .left)
 
 pub word-table-spec : {M : Type 1} → statement M
 word-table-spec =
@@ -89,7 +85,6 @@ word-table-spec =
     μ-loop
     loop-holds
     shared-slice-read-if1
-    returns
     add-k
     add-i
     loop-less
@@ -107,4 +102,4 @@ word-table-spec =
     add-i-2
     loop-less-2
     loop-again-2
-    returns-2)
+    returns)

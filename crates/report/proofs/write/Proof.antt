@@ -1,8 +1,8 @@
 -- Four texts after one another, with the words of the table, which spells the names; there is room for each since a report has room.
 use borrow.Author.Needs.{needs}
+use Rattle.model.specs.Line.{fields}
 use Rattle.report.specs.Codes.{Codes, codesOf}
 use Rattle.report.specs.Writing.{Room, wordsIn}
-use Rattle.report.proofs.Tables.{short-words}
 use Rattle.report.proofs.Text.{text, same-text, counts-room, variables-room, params-room, rows-room, written}
 use Rattle.report.proofs.Witness.{text-room}
 use Rattle.report.proofs.write.Statement.{statement}
@@ -12,10 +12,11 @@ abbrev given : tie.Start → Codes
 given c =
     codesOf (c .args .variables .now) (c .args .param-words .now) (c .args .param-shapes .now) (c .args .row-words .now) (c .args .row-shapes .now)
 
-room : (c : tie.After-word-table) → Room (c .before .before .before .args .buffer .now) 0 (text (wordsIn 256 (c .word-table .result)) (given (c .before .before .before)) (c .before .before .before .args .params) (c .before .before .before .args .rows))
+room : (c : tie.After-word-table) → Room (c .before .before .before .args .buffer .now) 0 (text (wordsIn (c .word-table .result)) (given (c .before .before .before)) (c .before .before .before .args .params) (c .before .before .before .args .rows))
 room c =
     let start = c .before .before .before in
-    text-room _ (short-words (c .word-table .ensures .0)) (given start) (start .args .params) (start .args .rows) (start .pre .1 .0) (start .pre .1 .1) (start .args .buffer .now) (start .pre .1 .2)
+    rw (same-text (c .word-table .result) (fields (start .args .names .now)) (c .word-table .ensures .1) (given start) (start .args .params) (start .args .rows))
+    (text-room _ (start .pre .0) (given start) (start .args .params) (start .args .rows) (start .pre .1 .0) (start .pre .1 .1) (start .args .buffer .now) (start .pre .1 .2))
 
 word-table-requires : tie.Need-word-table-requires
 word-table-requires c κs = search needs
@@ -41,7 +42,7 @@ write-slots-requires c κs = (
   c .before .before .before .before .before .before .before .before .before .before .before .before .before .before .word-table .ensures .0,
   search needs,
   search needs,
-  params-room _ _ _ _ (room (c .before .before .before .before .before .before .before .before .before .before .before .before .before .before)) (c .before .before .before .before .before .before .before .before .before .before .before .before .write-counts .ensures) (c .before .before .before .before .before .before .write-variables .ensures .0),
+  params-room _ _ _ _ (room (c .before .before .before .before .before .before .before .before .before .before .before .before .before .before)) (c .before .before .before .before .before .before .before .before .before .before .before .before .write-counts .ensures) (c .before .before .before .before .before .before .write-variables .ensures),
 )
 
 slice-aggregate-write-slots-2 : tie.Need-slice-aggregate-write-slots-2
@@ -53,7 +54,7 @@ write-slots-requires-2 c κs =
       after .before .before .before .before .before .before .before .before .word-table .ensures .0,
       search needs,
       search needs,
-      rows-room _ _ _ _ (room (after .before .before .before .before .before .before .before .before)) (after .before .before .before .before .before .before .write-counts .ensures) (after .write-variables .ensures .0) (c .before .before .before .before .before .before .write-slots .ensures .0),
+      rows-room _ _ _ _ (room (after .before .before .before .before .before .before .before .before)) (after .before .before .before .before .before .before .write-counts .ensures) (after .write-variables .ensures) (c .before .before .before .before .before .before .write-slots .ensures),
     )
 
 same-length : tie.Need-same-length
@@ -63,11 +64,10 @@ returns : tie.Need-returns
 returns c =
     let after = c .before .before .before .before .before .before .before .before .before .before .before .before .before .before .before .before in
     let made = after .before .before .before .before .before .before .before .before in
-    let slots = c .before .before .before .before .before .before .before .before .before .write-slots .ensures in
-    let last = c .before .before .write-slots2 .ensures in
-    written _ _ _ _ (room made) (after .before .before .before .before .before .before .write-counts .ensures) (after .write-variables .ensures .0) (slots .0) _
-    (same-text _ _ (made .word-table .ensures .1) _ _ _ (after .write-variables .ensures .1) (slots .1) (last .1))
-    (last .0)
+    written _ _ _ _ (room made) (after .before .before .before .before .before .before .write-counts .ensures) (after .write-variables .ensures)
+    (c .before .before .before .before .before .before .before .before .before .write-slots .ensures) _
+    (same-text _ _ (made .word-table .ensures .1) _ _ _)
+    (c .before .before .write-slots2 .ensures)
 
 pub write-spec : {M : Type 1} → statement M
 write-spec =

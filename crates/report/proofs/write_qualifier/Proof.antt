@@ -1,9 +1,9 @@
--- The word of a code is PLAIN, or the word of the table that stands before its code.
+-- The word of a code is PLAIN, or the word of the table that stands before its code, or empty past the table.
 use Prim.Native.Nat.{_-_, _≤_}
 use native.Mathlib.Omega.{arith}
 use borrow.Author.Needs.{needs}
 use Rattle.report.proofs.Tables.{sizeAt}
-use Rattle.report.proofs.Words.{plain-room, plain-wrote, tabled-room, tabled-wrote}
+use Rattle.report.proofs.Words.{plain-room, plain-wrote, no-word-room, no-word-wrote, tabled-room, tabled-wrote}
 use Rattle.report.proofs.write_qualifier.Statement.{statement}
 use Rattle.report.proofs.write_qualifier.Tie as tie
 
@@ -19,6 +19,18 @@ same-length c = search needs
 returns : tie.Need-returns
 returns c = search (plain-wrote, needs)
 
+slice-write-buffer : tie.Need-slice-write-buffer
+slice-write-buffer c = no-word-room _ _ (c .if2 .taken) _ (c .before .before .before .before .pre .1)
+
+add-result : tie.Need-add-result
+add-result c = omega (arith, slice-write-buffer c)
+
+same-length-2 : tie.Need-same-length-2
+same-length-2 c = search needs
+
+returns-2 : tie.Need-returns-2
+returns-2 c = no-word-wrote _ _ (c .if2 .taken) _ _ _
+
 sub-from : tie.Need-sub-from
 sub-from c = search needs
 
@@ -32,8 +44,8 @@ shared-slice-read-size : tie.Need-shared-slice-read-size
 shared-slice-read-size c = search needs
 
 -- A word of the table has at most five bytes.
-size : (c : tie.After-shared-slice-known2) → sizeAt (c .before .before .before .before .args .words .now) (c .before .before .before .before .args .code - 1) ≤ 5
-size c = c .before .before .before .before .pre .0 .sized _ (omega (arith, c .before .before .before .before .fits .code))
+size : (c : tie.After-shared-slice-known2) → sizeAt (c .before .before .before .before .before .args .words .now) (c .before .before .before .before .before .args .code - 1) ≤ 5
+size c = c .before .before .before .before .before .pre .0 .sized _ (omega (arith, c .before .if2 .left))
 
 cast-size : tie.Need-cast-size
 cast-size c = omega (arith, size c)
@@ -48,16 +60,16 @@ part-write-field-start : tie.Need-part-write-field-start
 part-write-field-start c = search needs
 
 part-write-field-end : tie.Need-part-write-field-end
-part-write-field-end c = omega (arith, size (c .before), c .before .before .before .before .before .pre .0 .long, c .before .before .before .before .before .fits .code)
+part-write-field-end c = omega (arith, size (c .before), c .before .before .before .before .before .before .pre .0 .long, c .before .before .if2 .left)
 
 write-field-requires-2 : tie.Need-write-field-requires-2
-write-field-requires-2 c κs = tabled-room _ _ (c .before .before .before .if1 .left) (omega (arith, c .before .before .before .before .before .before .fits .code)) _ (c .before .before .before .before .before .before .pre .1)
+write-field-requires-2 c κs = tabled-room _ _ (c .before .before .before .before .if1 .left) (c .before .before .before .if2 .left) _ (c .before .before .before .before .before .before .before .pre .1)
 
-same-length-2 : tie.Need-same-length-2
-same-length-2 c = search needs
+same-length-3 : tie.Need-same-length-3
+same-length-3 c = search needs
 
-returns-2 : tie.Need-returns-2
-returns-2 c = tabled-wrote _ _ (c .before .before .before .before .before .before .if1 .left) (omega (arith, c .before .before .before .before .before .before .before .before .before .fits .code)) _ (c .before .before .write-field2 .ensures)
+returns-3 : tie.Need-returns-3
+returns-3 c = tabled-wrote _ _ (c .before .before .before .before .before .before .before .if1 .left) (c .before .before .before .before .before .before .if2 .left) _ (c .before .before .write-field2 .ensures)
 
 pub write-qualifier-spec : {M : Type 1} → statement M
 write-qualifier-spec =
@@ -67,6 +79,10 @@ write-qualifier-spec =
     write-field-requires
     same-length
     returns
+    slice-write-buffer
+    add-result
+    same-length-2
+    returns-2
     sub-from
     mul-from
     add-size
@@ -77,5 +93,5 @@ write-qualifier-spec =
     part-write-field-start
     part-write-field-end
     write-field-requires-2
-    same-length-2
-    returns-2)
+    same-length-3
+    returns-3)

@@ -11,7 +11,7 @@ use Rattle.report.proofs.write_slots.Tie as tie
 
 abbrev Inv-loop : tie.InvT-loop
 Inv-loop buffer₀ at words tag codes shapes count next₀ i₀ buffer next i =
-    (i ≤ count) × Left buffer next (lines (slotAt (wordsIn 256 words) tag codes shapes) i (count - i)) buffer₀ at (lines (slotAt (wordsIn 256 words) tag codes shapes) 0 count)
+    (i ≤ count) × Left buffer next (lines (slotAt (wordsIn words) tag codes shapes) i (count - i)) buffer₀ at (lines (slotAt (wordsIn words) tag codes shapes) 0 count)
 
 abbrev μ-loop : tie.MeasureT-loop
 μ-loop buffer₀ at words tag codes shapes count next₀ i₀ buffer next i = count - i
@@ -44,7 +44,7 @@ same-length : tie.Need-same-length Inv-loop μ-loop
 same-length c = left-length (c .before .loop .inv .1)
 
 returns : tie.Need-returns Inv-loop μ-loop
-returns c = (turn-end _ _ _ (c .before .loop .inv .1) (c .loop-test .left), λ i. omega (arith, c .before .before .before .shared-slice-known2 .given i))
+returns c = turn-end _ _ _ (c .before .loop .inv .1) (c .loop-test .left)
 
 pub write-slots-spec : {M : Type 1} → statement M
 write-slots-spec =

@@ -12,7 +12,7 @@ use Rattle.report.proofs.write_variables.Tie as tie
 
 abbrev Inv-loop : tie.InvT-loop
 Inv-loop buffer₀ at words variables next₀ k₀ buffer next k =
-    (k ≤ 64) × Left buffer next (lines (variableAt (wordsIn 256 words) variables) k (64 - k)) buffer₀ at (lines (variableAt (wordsIn 256 words) variables) 0 64)
+    (k ≤ 64) × Left buffer next (lines (variableAt (wordsIn words) variables) k (64 - k)) buffer₀ at (lines (variableAt (wordsIn words) variables) 0 64)
 
 abbrev μ-loop : tie.MeasureT-loop
 μ-loop buffer₀ at words variables next₀ k₀ buffer next k = 64 - k
@@ -47,7 +47,7 @@ same-length : tie.Need-same-length Inv-loop μ-loop
 same-length c = left-length (c .before .loop .inv .1)
 
 returns : tie.Need-returns Inv-loop μ-loop
-returns c = (turn-end _ _ 64 (c .before .loop .inv .1) (c .loop-test .left), λ i. omega (arith, c .before .before .shared-slice-known2 .given i))
+returns c = turn-end _ _ 64 (c .before .loop .inv .1) (c .loop-test .left)
 
 pub write-variables-spec : {M : Type 1} → statement M
 write-variables-spec =
