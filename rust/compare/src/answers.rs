@@ -4,7 +4,7 @@ use crate::buffers::{
     assert_bytes, assert_same, filled_buffer, inner, random_buffer, shown, MARGIN,
 };
 use crate::{placement_session, session_lent};
-use second::generate::Random;
+use second::generate::{text_of_lines, Random};
 use second::session::{written, Command};
 
 /// A function that answers scripts: the script and a buffer in, the length of all answers out.
@@ -78,6 +78,21 @@ pub fn assert_answers(about: &str, script: &[u8], answers: &[u8]) {
             assert!(bytes.iter().all(|&other| other == byte), "for {name}, {about}");
         }
     }
+}
+
+/// A line of a script and what is printed of it, lines separated by white space.
+pub type Exchange<'a> = (&'a str, &'a str);
+
+/// Asserts what both functions print of each line of a script, and of the whole without its last line feed.
+pub fn assert_exchanges(exchanges: &[Exchange]) {
+    let (mut script, mut answers) = (vec![], vec![]);
+    for (line, printed) in exchanges {
+        script.extend(format!("{line}\n").into_bytes());
+        answers.extend(text_of_lines(printed));
+        assert_answers(&format!("a script up to the line {line}"), &script, &answers);
+    }
+    assert_eq!(script.pop(), Some(b'\n'));
+    assert_answers("a script without its last line feed", &script, &answers);
 }
 
 /// The answers to a script, by one call that asks for their length and one that has room for them.

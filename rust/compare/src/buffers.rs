@@ -50,3 +50,14 @@ pub fn assert_bytes(found: &[u8], expected: &[u8], about: &str) {
 pub fn shown(bytes: &[u8]) -> String {
     bytes[..bytes.len().min(30_000)].escape_ascii().to_string()
 }
+
+/// The bytes with any byte put in before each of them and at the end, and with any byte in the place of each.
+pub fn with_any_byte(bytes: &[u8]) -> impl Iterator<Item = Vec<u8>> + '_ {
+    (0..=bytes.len()).flat_map(move |position| {
+        let (front, back) = bytes.split_at(position);
+        let rest = back.get(1..).unwrap_or_default();
+        let changed =
+            move |byte| [[front, &[byte], back].concat(), [front, &[byte], rest].concat()];
+        (0..=255).flat_map(changed)
+    })
+}

@@ -1,14 +1,14 @@
 //! Scripts with scheme files among their commands: both entries for scripts answer as the reference does.
 
-use compare::answers::{asked, assert_answers, assert_written, number, word, Room, ENTRIES};
-use compare::buffers::{assert_bytes, shown};
+use compare::answers::{asked, assert_exchanges, assert_written, number, word, Room, ENTRIES};
+use compare::buffers::{assert_bytes, shown, with_any_byte};
 use compare::sessions::{
     random_script, random_script_with_files, schemes_command, Kind, LONGEST_FILE,
 };
 use second::counts::Counts;
 use second::generate::{
-    accepted_file_of, text_of_lines, LineFault, Malformation, OrderFaults, PlainByBounds, Random,
-    SchemeFile, SchemeProperty,
+    accepted_file_of, LineFault, Malformation, OrderFaults, PlainByBounds, Random, SchemeFile,
+    SchemeProperty,
 };
 use second::place::lines;
 use second::schemes::SIX_FILE;
@@ -95,21 +95,6 @@ impl Tally {
         self.replaced.assert_each([true], SCRIPTS / 2);
         self.replaced.assert_each([false], SCRIPTS / 2);
     }
-}
-
-/// A line of a script and what is printed of it, lines separated by white space.
-type Exchange<'a> = (&'a str, &'a str);
-
-/// Asserts that both entries answer each line of a script so, also up to each of its lines.
-fn assert_exchanges(exchanges: &[Exchange]) {
-    let (mut script, mut answers) = (vec![], vec![]);
-    for (line, printed) in exchanges {
-        script.extend(format!("{line}\n").into_bytes());
-        answers.extend(text_of_lines(printed));
-        assert_answers(&format!("up to the line {line}"), &script, &answers);
-    }
-    let unended = script.strip_suffix(b"\n").unwrap();
-    assert_answers("without the last line feed", unended, &answers);
 }
 
 #[test]
@@ -248,19 +233,12 @@ fn codes_follow_the_number_of_schemes() {
 fn commands_with_any_byte_changed_are_answered_alike() {
     let mut random = Random::seeded(4);
     let mut counts = Counts::default();
-    let command = b"schemes S,AB,10000 S,C,00000";
-    for position in 0..=command.len() {
-        let (front, back) = command.split_at(position);
-        let rest = back.get(1..).unwrap_or_default();
-        for byte in 0..=255 {
-            for changed in [[front, &[byte], back].concat(), [front, &[byte], rest].concat()] {
-                let before = b"add T,0,ANY\nadd P,0,g0,0\nadd E,0,VAR,0\nadd E,1,LAM,0,0\n";
-                let script = [&before[..], &changed, b"\ninfer\nadd E,0,ENC,C,1\n"].concat();
-                let answers = session(&script);
-                assert_written(&mut random, &script, &answers, answers.len());
-                counts.add((word(&changed), number(&answer(&mut Table::fresh(), &changed))));
-            }
-        }
+    for changed in with_any_byte(b"schemes S,AB,10000 S,C,00000") {
+        let before = b"add T,0,ANY\nadd P,0,g0,0\nadd E,0,VAR,0\nadd E,1,LAM,0,0\n";
+        let script = [&before[..], &changed, b"\ninfer\nadd E,0,ENC,C,1\n"].concat();
+        let answers = session(&script);
+        assert_written(&mut random, &script, &answers, answers.len());
+        counts.add((word(&changed), number(&answer(&mut Table::fresh(), &changed))));
     }
     println!("{:?}", counts.0);
     counts.assert_each([("?", 0)], 3_000);

@@ -1,6 +1,6 @@
 //! Under scheme files, the C entry and the reference solver give the same number and the same bytes for the same text.
 
-use compare::buffers::{filled_buffer, inner, shown};
+use compare::buffers::{filled_buffer, inner, shown, with_any_byte};
 use compare::questions::{assert_answer, assert_answers, Question, Room, Tally};
 use compare::sessions::LONGEST_FILE;
 use compare::texts::{
@@ -309,8 +309,7 @@ fn tables_with_deep_sharing_and_long_chains_are_answered_alike() {
         }
         seen.finish(&format!("{SPECIAL_TABLES} tables with {about} under files"));
         seen.tally.answers.assert_each(VERDICTS, SPECIAL_TABLES / 50);
-        let accepted_and_refused = [0, 21, 23];
-        for number in accepted_and_refused {
+        for number in [0, 21, 23] {
             seen.sizes.assert_each((1..=8).map(|size| (size, number)), SPECIAL_TABLES / 800);
         }
     }
@@ -451,16 +450,9 @@ fn small_files_of_all_bits_are_answered_alike() {
 fn files_with_any_byte_changed_are_answered_alike() {
     let mut random = Random::seeded(7);
     let mut tally = Tally::default();
-    let file = b"S,AB,10000\nS,C,00000\n";
-    for position in 0..=file.len() {
-        let (front, back) = file.split_at(position);
-        let rest = back.get(1..).unwrap_or_default();
-        for byte in 0..=255 {
-            for changed in [[front, &[byte], back].concat(), [front, &[byte], rest].concat()] {
-                let question = Question::under(&changed, b"E,0,ENC,C,1\n");
-                tally.compare(&mut random, "a changed file", question, Room::Exact);
-            }
-        }
+    for changed in with_any_byte(b"S,AB,10000\nS,C,00000\n") {
+        let question = Question::under(&changed, b"E,0,ENC,C,1\n");
+        tally.compare(&mut random, "a changed file", question, Room::Exact);
     }
     tally.answers.assert_each([0, 1], 10);
     tally.answers.assert_each([25], 10_000);

@@ -1,7 +1,9 @@
 //! The entry for scripts, and the same through the layer that lends the table, answer as the reference does.
 
-use compare::answers::{asked, assert_answers, assert_written, number, word, Room, ENTRIES};
-use compare::buffers::{assert_bytes, shown};
+use compare::answers::{
+    asked, assert_answers, assert_exchanges, assert_written, number, word, Room, ENTRIES,
+};
+use compare::buffers::{assert_bytes, shown, with_any_byte};
 use compare::placement_session;
 use compare::sessions::{adding, random_script, Kind};
 use compare::words::WordCounts;
@@ -272,9 +274,7 @@ fn a_floor_is_met_and_missed_as_the_documents_say() {
         ("add E,3,LAM,0,2", "0"),
         ("infer", &det),
     ];
-    let script: String = exchanges.iter().map(|(line, _)| format!("{line}\n")).collect();
-    let answers: Vec<u8> = exchanges.iter().flat_map(|(_, it)| text_of_lines(it)).collect();
-    assert_answers("a script with a floor", script.as_bytes(), &answers);
+    assert_exchanges(&exchanges);
 }
 
 #[test]
@@ -381,18 +381,12 @@ fn commands_with_any_byte_changed_are_answered_alike() {
     let mut random = Random::seeded(5);
     let mut unknown = 0;
     for command in ["add E,1,LAM,0,0", "redeclare 0 10", "take-back", "infer"] {
-        for position in 0..=command.len() {
-            let (front, back) = command.as_bytes().split_at(position);
-            for byte in 0..=255 {
-                let rest = back.get(1..).unwrap_or_default();
-                for changed in [[front, &[byte], back].concat(), [front, &[byte], rest].concat()] {
-                    unknown += usize::from(Command::read(&changed).is_none());
-                    let before = b"add T,0,ANY\nadd P,0,g0,0\nadd E,0,VAR,0\n";
-                    let script = [&before[..], &changed, b"\ninfer\n"].concat();
-                    let answers = session(&script);
-                    assert_written(&mut random, &script, &answers, answers.len());
-                }
-            }
+        for changed in with_any_byte(command.as_bytes()) {
+            unknown += usize::from(Command::read(&changed).is_none());
+            let before = b"add T,0,ANY\nadd P,0,g0,0\nadd E,0,VAR,0\n";
+            let script = [&before[..], &changed, b"\ninfer\n"].concat();
+            let answers = session(&script);
+            assert_written(&mut random, &script, &answers, answers.len());
         }
     }
     assert!(unknown > 10_000, "{unknown} lines were no commands only");

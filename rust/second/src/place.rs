@@ -33,7 +33,7 @@ pub fn entry(text: &[u8], buffer: &mut [u8]) -> u32 {
     entry_on(Table::fresh(), text, buffer)
 }
 
-/// What the C entry would return under a scheme file: 25,000, 26,000 or 27,000 where the file is refused, before any line is read.
+/// What the C entry under a scheme file returns: 25,000, 26,000 or 27,000 where the file is refused, before any line is read.
 pub fn entry_under(file: &[u8], text: &[u8], buffer: &mut [u8]) -> u32 {
     if buffer.len() < LONGEST_REPORT {
         return 11_000;
