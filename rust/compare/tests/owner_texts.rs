@@ -8,18 +8,17 @@ use compare::texts::{
 };
 use compare::{placement_report, placement_report_under};
 use second::counts::Counts;
+use second::examples::{bytes, files, scheme_files, tables_of};
 use second::generate::{
     accepted_file, accepted_file_of, chain_under, deep, doubling_under, text_of_lines,
     text_with_floors_under, Floors, LineFault, NumberCounts, OrderFaults, Place, PlainByBounds,
     Random, SchemeFile, SchemeProperty,
 };
 use second::operation::Operation;
-use second::place::number_of;
+use second::place::{number_of, returned_for};
 use second::report::LONGEST_REPORT;
 use second::schemes::SIX_FILE;
 use second::{entry, SchemeTable, Table};
-use std::fs;
-use std::path::Path;
 
 /// How many texts of all kinds are compared, under files of all kinds.
 const TEXTS: usize = 24_000;
@@ -492,26 +491,37 @@ fn assert_same_under_the_six(text: &[u8], length: usize) -> u32 {
 }
 
 #[test]
-fn the_examples_are_answered_alike_under_the_file_of_the_six() {
-    let folder = Path::new(env!("CARGO_MANIFEST_DIR")).join("../../examples");
+fn the_examples_have_their_reports() {
     let mut answers = Counts::default();
-    for file in fs::read_dir(folder).unwrap() {
-        let path = file.unwrap().path();
-        if path.extension().is_some_and(|extension| extension == "table") {
-            let text = fs::read(&path).unwrap();
-            let returned = assert_same_under_the_six(&text, LONGEST_REPORT);
-            assert_eq!(assert_same_under_the_six(&text, LONGEST_REPORT - 1), 11_000);
-            // The report that stands beside the table.
-            let report = fs::read(path.with_extension("report")).unwrap();
-            if returned > 100_000 {
-                assert_answers("an example", Question::under(SIX_FILE, &text), returned, &report);
-            }
-            answers.add(number_of(returned));
+    for (name, file, number) in scheme_files() {
+        if number != 0 {
+            answers.add(number);
+            let question = Question::under(&file, b"E,0,NUM,1");
+            assert_answers(&name, question, number * 1_000, b"");
+            continue;
+        }
+        for path in files(&tables_of(&name), "table") {
+            let (text, printed) = (bytes(&path), bytes(&path.with_extension("report")));
+            let returns = returned_for(&printed);
+            let report = if returns > 100_000 { &printed[..] } else { b"" };
+            let about = path.display().to_string();
+            assert_answers(&about, Question::under(&file, &text), returns, report);
+            answers.add(number_of(returns));
         }
     }
     println!("{:?}", answers.0);
-    answers.assert_each([0], 10);
-    answers.assert_each([1, 2, 3, 4, 5, 6, 7, 8, 10, 21, 22, 23, 24], 1);
+    answers.assert_each([0], 20);
+    answers.assert_each([1, 2, 3, 4, 5, 6, 7, 8, 10, 21, 22, 23, 24, 25, 26, 27], 1);
+}
+
+#[test]
+fn the_examples_are_answered_alike_under_the_file_of_the_six() {
+    for path in files("", "table") {
+        let text = bytes(&path);
+        let returned = assert_same_under_the_six(&text, LONGEST_REPORT);
+        assert_eq!(returned, returned_for(&bytes(&path.with_extension("report"))));
+        assert_eq!(assert_same_under_the_six(&text, LONGEST_REPORT - 1), 11_000);
+    }
 }
 
 #[test]

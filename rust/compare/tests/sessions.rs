@@ -8,13 +8,12 @@ use compare::placement_session;
 use compare::sessions::{adding, random_script, Kind};
 use compare::words::WordCounts;
 use second::counts::Counts;
+use second::examples::{bytes, files};
 use second::generate::{deep, text_of_lines, LetterCase, NumberCounts, Place, Random};
 use second::place::lines;
 use second::session::{answer, session, Command};
 use second::to_try;
 use second::{SchemeTable, Table};
-use std::fs;
-use std::path::Path;
 
 /// How many generated scripts are compared.
 const SCRIPTS: usize = 24_000;
@@ -200,18 +199,10 @@ impl Tally {
 
 #[test]
 fn the_examples_have_their_answers() {
-    let folder = Path::new(env!("CARGO_MANIFEST_DIR")).join("../../examples");
-    let mut scripts = 0;
-    for file in fs::read_dir(folder).unwrap() {
-        let path = file.unwrap().path();
-        if path.extension().is_some_and(|extension| extension == "script") {
-            let answers = fs::read(path.with_extension("answers")).unwrap();
-            let about = path.display().to_string();
-            assert_answers(&about, &fs::read(&path).unwrap(), &answers);
-            scripts += 1;
-        }
+    for path in ["", "schemes"].into_iter().flat_map(|folder| files(folder, "script")) {
+        let answers = bytes(&path.with_extension("answers"));
+        assert_answers(&path.display().to_string(), &bytes(&path), &answers);
     }
-    assert_ne!(scripts, 0);
 }
 
 #[test]

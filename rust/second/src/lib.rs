@@ -8,6 +8,7 @@
 
 pub mod classes;
 pub mod counts;
+pub mod examples;
 pub mod generate;
 pub mod line;
 pub mod operation;

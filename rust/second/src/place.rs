@@ -5,7 +5,12 @@ use crate::table::{Answer, Table};
 
 /// What `place` prints when its standard input is this text.
 pub fn place(text: &[u8]) -> Vec<u8> {
-    let table = match filled(Table::fresh(), text) {
+    place_on(Table::fresh(), text)
+}
+
+/// What `place` would print if it had this fresh table.
+pub fn place_on(fresh: Table, text: &[u8]) -> Vec<u8> {
+    let table = match filled(fresh, text) {
         Ok(table) => table,
         Err((number, line)) => return format!("X,{number},{line}\n").into_bytes(),
     };
@@ -41,6 +46,17 @@ pub fn entry_under(file: &[u8], text: &[u8], buffer: &mut [u8]) -> u32 {
     match Table::fresh_under(file) {
         (fresh, 0) => entry_on(fresh, text, buffer),
         (_, number) => number * 1_000,
+    }
+}
+
+/// What the entry returns for a text for which this is printed.
+pub fn returned_for(printed: &[u8]) -> u32 {
+    let text = String::from_utf8_lossy(printed);
+    let fields: Vec<&str> = text.trim_end().split(',').collect();
+    let number = |place: usize| fields[place].parse::<u32>().expect("a number is printed");
+    match fields[0] {
+        "OK" => 100_000 + printed.len() as u32,
+        _ => number(1) * 1_000 + number(2),
     }
 }
 

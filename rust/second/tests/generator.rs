@@ -12,7 +12,7 @@ use second::generate::{
 };
 use second::line::read;
 use second::operation::Operation;
-use second::place::{lines, number_of};
+use second::place::{lines, number_of, returned_for};
 use second::qualifier::{at_or_below, Qualifier};
 use second::rows::{Entry, TypeRow};
 use second::schemes::{Code, PLAIN};
@@ -522,16 +522,6 @@ fn all_verdicts_occur_in_deep_and_long_programs() {
     }
 }
 
-/// The number that the C entry returns, worked out from what `place` prints.
-fn entry_number(printed: &[u8]) -> u32 {
-    let text = String::from_utf8(printed.to_vec()).unwrap();
-    let fields: Vec<&str> = text.trim_end().split(',').collect();
-    match fields[0] {
-        "OK" => 100_000 + printed.len() as u32,
-        _ => fields[1].parse::<u32>().unwrap() * 1_000 + fields[2].parse::<u32>().unwrap(),
-    }
-}
-
 #[test]
 fn the_entry_and_place_agree_on_damaged_texts() {
     let mut random = Random::seeded(28);
@@ -541,7 +531,7 @@ fn the_entry_and_place_agree_on_damaged_texts() {
         let printed = place(&text);
         let mut buffer = [9; 6290];
         let returned = entry(&text, &mut buffer);
-        assert_eq!(returned, entry_number(&printed));
+        assert_eq!(returned, returned_for(&printed));
         let written = if returned > 100_000 { &printed[..] } else { b"" };
         assert!(buffer.starts_with(written));
         assert!(buffer[written.len()..].iter().all(|&byte| byte == 9));
@@ -558,7 +548,7 @@ fn any_bytes_are_refused_with_a_number() {
         let printed = place(&text);
         let expected: &[u8] = if text.is_empty() { b"NO,10,0\n" } else { b"X,1,1\n" };
         assert_eq!(printed, expected);
-        assert_eq!(entry(&text, &mut [0; 6280]), entry_number(&printed));
+        assert_eq!(entry(&text, &mut [0; 6280]), returned_for(&printed));
     }
 }
 
