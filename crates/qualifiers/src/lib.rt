@@ -1,18 +1,18 @@
 // Classes of qualifier nodes: made one, restricted, tested, and read off.
 ghost use mathlib.Core.Path.{_≡_};
-ghost use mathlib.Core.Bool.{true};
+ghost use mathlib.Core.List.{List};
 ghost use Prim.Native.Nat.{ℕ, _<_};
 ghost use lib.Dec.{ltb};
 ghost use lib.ListN.{length};
 ghost use Rattle.scheme.specs.Rule.{wordsAt, topAt, under, Lattice};
 ghost use Rattle.forest.specs.Forest.{Forest};
 ghost use Rattle.forest.specs.Pairs.{Pairs};
-ghost use Rattle.qualifiers.specs.Classes.{boundAt, Classes, Roots, United, Class, UnitedAll, Restricted, Tested, Greatest};
+ghost use Rattle.qualifiers.specs.Classes.{boundAt, Classes, Within, Roots, United, Class, UnitedAll, Restricted, Tested, Settled, Greatest};
 
 // The answer where two constants would be one: no node has this number.
 pub const APART: usize = 329;
 
-// Puts a root under a smaller one, which takes the meet of the two bounds; RAND leaves the other as it is. The smaller one, or APART: both are constants.
+// Puts a root under a smaller one, which takes the meet of the two bounds; the greatest scheme leaves the other as it is. The smaller one, or APART: both are constants.
 fn join(
     rule: &[u8; 88],
     parent: &mut [u16; 329],
@@ -96,7 +96,7 @@ pub fn restrict(rule: &[u8; 88], bound: &mut [u8; 329], r: usize, most: u8) -> b
     true
 }
 
-// Whether every constant is at or below its bound. RAND bounds nothing, and most bounds are RAND.
+// Whether every constant is at or below its bound. The greatest scheme bounds nothing, and is what most bounds are.
 pub fn within_bounds(rule: &[u8; 88], bound: &[u8; 329]) -> bool
     requires { ⌜ Lattice (now rule) × (length (now bound) ≡ 329) × ((x : ℕ) → x < 329 → boundAt (now bound) x < wordsAt (now rule)) ⌝ }
     ensures { λ r. ⌜ Tested (now (rule .entry)) (now (bound .entry)) r ⌝ }
@@ -117,21 +117,29 @@ pub fn within_bounds(rule: &[u8; 88], bound: &[u8; 329]) -> bool
     true
 }
 
-// Puts into each node's bound the greatest qualifier that a reading gives it, from below: a parent is settled before its node.
-pub fn settle(rule: &[u8; 88], parent: &[u16; 329], bound: &mut [u8; 329])
-    requires { ⌜ Classes (now rule) (now parent) (now bound) ⌝ ∗ ⌜ ((c : ℕ) → c < wordsAt (now rule) → under (now rule) c (boundAt (now bound) c) ≡ true) ⌝ }
-    ensures { λ _. ⌜ Greatest (now (rule .entry)) (now (parent .entry)) (now (bound .entry)) (boundAt (now (bound .exit))) ⌝ }
+// Puts into each word's node that word.
+fn settle_words(rule: &[u8; 88], bound: &mut [u8; 329])
+    requires { ⌜ Lattice (now rule) ⌝ }
+    ensures { λ _. ⌜ ((p : List ℕ) → Classes (now (rule .entry)) p (now (bound .entry)) → Within (now (rule .entry)) (now (bound .entry)) → Settled (now (rule .entry)) p (now (bound .entry)) (now (bound .exit)) (wordsAt (now (rule .entry)))) ⌝ }
 {
     let words = scheme::words(rule);
-    let mut x: usize = 0;
+    let mut c: usize = 0;
+    while c < words {
+        bound[c] = c as u8;
+        c += 1;
+    }
+}
+
+// Puts into each node's bound the greatest qualifier that a reading gives it, from below: a parent is settled before its node.
+pub fn settle(rule: &[u8; 88], parent: &[u16; 329], bound: &mut [u8; 329])
+    requires { ⌜ Classes (now rule) (now parent) (now bound) ⌝ ∗ ⌜ Within (now rule) (now bound) ⌝ }
+    ensures { λ _. ⌜ Greatest (now (rule .entry)) (now (parent .entry)) (now (bound .entry)) (boundAt (now (bound .exit))) ⌝ }
+{
+    settle_words(rule, bound);
+    let mut x = scheme::words(rule);
     while x < 329 {
-        if x < words {
-            bound[x] = x as u8;
-            x += 1;
-        } else {
-            let above = parent[x] as usize;
-            bound[x] = bound[above];
-            x += 1;
-        }
+        let above = parent[x] as usize;
+        bound[x] = bound[above];
+        x += 1;
     }
 }
