@@ -31,9 +31,9 @@ extern "C" {
 #define PLACEMENT_SCHEMES_LENGTH 113
 
 /*
- * Stack to have free for a call, in bytes. Measured for placement_report: 33,000 for ordinary tables, 62,000 for the deepest types found; for
- * placement_session on the same lines: 52,000 and 81,000. Nothing proves a bound; kit/test measures these two and placement_report_under anew and
- * holds all three to this number.
+ * Stack to have free for a call, in bytes. Measured for placement_report and placement_report_under: 39,000 for ordinary tables, 68,000 for the
+ * deepest types found; for placement_session on the same lines: 58,000 and 87,000. Nothing proves a bound; kit/test measures all three anew and
+ * holds them to this number.
  */
 #define PLACEMENT_STACK_LENGTH 131072
 
