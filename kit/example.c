@@ -43,9 +43,9 @@ static const char *words(unsigned number) {
     case PLACEMENT_SCHEME_FILE:
         return "the scheme file does not have 1 to 8 lines S,NAME,BITS with names of 1 to 5 capitals other than PLAIN, each with five digits 0 or 1, or two lines have the same name or the same digits.";
     case PLACEMENT_NO_MEET:
-        return "the scheme file has no greatest scheme, or two schemes in it have no greatest lower bound. Add a scheme that supports exactly what all schemes have in common, or one that supports exactly what those two support together.";
+        return "the scheme file has no greatest scheme, or two schemes in it have no greatest lower bound. Add a scheme that supports exactly what all schemes have in common, or one that supports exactly what those two support together, and check the file again.";
     case PLACEMENT_NO_HIGHEST:
-        return "an operation has supporters in the scheme file, but no highest one. Add a scheme that supports exactly what all its supporters have in common.";
+        return "an operation has supporters in the scheme file, but no highest one. Add a scheme that supports exactly what all its supporters have in common, and check the file again.";
     default:
         return "this program does not know the number. See docs/NUMBERS.md.";
     }

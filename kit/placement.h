@@ -117,7 +117,8 @@ uint32_t placement_report(const uint8_t *text, size_t text_length, uint8_t *repo
  * One scheme is at or below another when it supports at least as much, and PLAIN is below all. In a file that is accepted there is a greatest
  * scheme, any two qualifiers have a greatest lower bound, and an operation that some scheme supports has one highest scheme, which all that
  * support it are at or below. An operation that no scheme supports has PLAIN as its highest: an input with a variable is PLAIN there and leaves
- * in the open, unless its floor refuses that with 24.
+ * in the open, unless its floor refuses that with 24. So it is with two or more operations that no one scheme supports together. What a scheme
+ * supports is the owner's word, which nothing checks.
  *
  * The qualifier words of the table are PLAIN and the file's names: in T and P lines, as floors and, without PLAIN, in ENC lines. Like all words
  * they may be in either case. The report has the names as the file has them. A word of the six that the file does not name is none of the
@@ -129,8 +130,9 @@ uint32_t placement_report(const uint8_t *text, size_t text_length, uint8_t *repo
  * schemes, text: any bytes, of any length. They are read and never changed.
  * report: the caller's buffer. Nothing of it, of the file or of the text is kept after the call.
  *
- * The caller owes: pointers that are not null, also for length 0; lengths that are true; a buffer that overlaps neither the file nor the text,
- * which may overlap each other; nobody else who writes to any of the three during the call; and PLACEMENT_STACK_LENGTH bytes of free stack.
+ * The caller owes: pointers that are not null, also for length 0; lengths that are true; a buffer that overlaps neither the file nor the text
+ * (file and text may overlap each other); nobody else who writes to any of the three during the call; and PLACEMENT_STACK_LENGTH bytes of free
+ * stack.
  *
  * This call too takes no memory but its stack, holds no state and ends for every file and text, so threads may call it at once, each with a
  * buffer of its own.
@@ -151,9 +153,10 @@ uint32_t placement_report_under(const uint8_t *schemes, size_t schemes_length, c
  *   take-back          its number. Drops the last term row
  *   infer              the report, as placement_report writes it, or NO,number,row; for 24 NO,24,parameter
  *   schemes LINES      its number: 0, 25, 26 or 27. LINES is a scheme file, as placement_report_under takes it, with a blank in the
- *                      place of each line feed: in a shell, echo schemes $(cat FILE). Accepted, the table from then on is a fresh one
- *                      of that file's schemes, and what stood before is gone; refused, nothing is changed. The way back to the six
- *                      is their own file
+ *                      place of each line feed, also of the last one: in a shell, echo "schemes $(tr '\n' ' ' < FILE)". Two blanks
+ *                      are an empty line, and no byte behind the first blank is an empty file: 25. Accepted, the table from then on
+ *                      is a fresh one of that file's schemes, and what stood before is gone; refused, nothing is changed. The way
+ *                      back to the six is their own file
  *   any other line     ? and nothing is changed. Commands are in small letters
  *
  * Returns the length of all answers, at most SIZE_MAX. Where the buffer is long enough, they stand at its front, without a 0 at their end,

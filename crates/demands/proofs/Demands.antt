@@ -223,8 +223,8 @@ file-front = opened-front
 pub returned-under-six : {text buffer b : List ℕ} {n : ℕ} → ReturnsUnder six-file text buffer n b → Returns sixTable text buffer n b
 returned-under-six = six-under
 
--- The session. What the contract of `placement_session` says of a script: its calls are lists of demand 3, one for each scheme file that it starts
--- with, and all that is written is the answers. Every slice is shorter than the largest number.
+-- The session. What the contract of `placement_session` says of a script: its calls are lists of demand 3, one for each table that it
+-- starts, and all that is written is the answers. Every slice is shorter than the largest number.
 pub script-is-sessions : {script output after : List ℕ} {n : ℕ} → length output < largest → Responds script output n after → InSessions script output n after
 script-is-sessions = in-sessions
 

@@ -52,11 +52,11 @@ pub data Returns (T : SchemeTable) (text buffer : List ℕ) : ℕ → List ℕ �
   reported : {m : Machine} {o : Outcome} → 6280 ≤ length buffer → load T text ≡ loaded m → Infers m buffer o → o .number ≡ 0 →
       Returns T text buffer (100000 + o .size) (o .buffer)
 
--- What the C entry that takes an owner's scheme file returns, and the buffer after it. Document 02, d).
+-- What the C entry that takes an owner's scheme file returns, and the buffer after it. Document 02, d); the order is docs/DECISIONS.md's.
 pub data ReturnsUnder (file text buffer : List ℕ) : ℕ → List ℕ → Type 0 where
-  -- the short buffer first, as there
+  -- "A short buffer is told first"
   short : length buffer < 6280 → ReturnsUnder file text buffer 11000 buffer
-  -- then 25 to 27, "with row 0"
+  -- "then what refuses the file, times 1,000 with 0 for its row"
   refused-file : 6280 ≤ length buffer → ¬ (opened file .number ≡ 0) → ReturnsUnder file text buffer (opened file .number * 1000) buffer
-  -- then as that entry, under the file's schemes
+  -- "then all as under `placement_report`", the schemes being the file's
   accepted-file : {n : ℕ} {after : List ℕ} → opened file .number ≡ 0 → Returns (opened file .machine .schemes) text buffer n after → ReturnsUnder file text buffer n after

@@ -77,11 +77,11 @@ impl Refusal {
             26 => {
                 "the scheme file has no greatest scheme, or two schemes in it have no greatest lower bound: \
                  add a scheme that supports exactly what all schemes have in common, \
-                 or one that supports exactly what those two support together"
+                 or one that supports exactly what those two support together, and check the file again"
             }
             27 => {
                 "an operation has supporters in the scheme file, but no highest one: \
-                 add a scheme that supports exactly what all its supporters have in common"
+                 add a scheme that supports exactly what all its supporters have in common, and check the file again"
             }
             _ => "unknown number",
         }
