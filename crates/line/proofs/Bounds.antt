@@ -1,16 +1,14 @@
 -- How large the values are that the definitions of a number, a qualifier, a floor, a scheme and an operation give.
 use Prim.Native.Nat.{ℕ, suc, _+_, _≤_, _<_}
-use native.Mathlib.Nat.{le-of-lt}
 use native.Mathlib.Omega.{arith}
 use mathlib.Core.Bool.{Bool, true, false, _&&_, cond}
 use mathlib.Core.List.{List, [], _∷_}
 use mathlib.Core.Path.{_≡_, refl, sym, ap, _∙_}
 use lib.Dec.{eqb, leb}
 use lib.ListN.{length}
-use mir.Syntax.{Width}
+use mir.Syntax.{w8, w16}
 use mir.Val.{Fits}
-use mir.Facts.{fits-le}
-use borrow.Author.Tests.{leb-true, eqb-true}
+use borrow.Author.Tests.{leb-true, eqb-true, eq-eqb, ne-eqb}
 use Rattle.scheme.proofs.Every.{and-right}
 use Rattle.model.specs.Lists.{allOf}
 use Rattle.model.specs.Number.{isDigit, valueFrom, noLeadingZero, numberOf}
@@ -19,6 +17,7 @@ use Rattle.model.specs.Line.{fields, field, floor}
 use Rattle.model.specs.declared.Field.{Field}
 use Rattle.model.specs.declared.Field.the-variants.{Value, NoValue}
 use Rattle.line.specs.Names.{Few}
+use Rattle.line.specs.Form.{valueOf}
 
 -- No value is none.
 pub none-is-none : {A : Type 0} (n : ℕ) → NoValue ≡ Value n → A
@@ -102,25 +101,21 @@ floor-cases {P} names s c e left-out word = go (eqb (length (fields s)) 4) (eqb 
 pub floor-below : (names : List (List ℕ)) (s : List ℕ) (c : ℕ) → floor names s ≡ Value c → c < suc (length names)
 floor-below names s c e = floor-cases names s c e (λ four plain. omega arith) (λ five word. word-below names (field s 4) c word)
 
--- So what was read fits where its largest value does: each cast of a value that was read is closed by `search (fits, needs)`.
-read-fits : {w : Width} {x r : Field} {n m : ℕ} → r ≡ x → r ≡ Value n → (x ≡ Value n → n ≤ m) → Fits w m → Fits w n
-read-fits p q bound f = fits-le (bound (sym p ∙ q)) f
+-- So what was read of a field fits where it is stored.
+module _ (names : List ℕ) (kind : ℕ) (s : List ℕ) (r : Field) (n : ℕ) (e : r ≡ valueOf (fields names) kind s) (v : r ≡ Value n) where
+  pub number-fits : kind ≡ 110 → Fits w16 n
+  unfolding valueOf
+  number-fits is = let read : numberOf 65535 s ≡ Value n = simp (eq-eqb kind 110 is) at (sym e ∙ v) in omega (arith, number-at-most 65535 s n read)
 
-module _ (w : Width) (s : List ℕ) (r : Field) (n : ℕ) (v : r ≡ Value n) where
-  pub number-fits : (most : ℕ) → r ≡ numberOf most s → Fits w most → Fits w n
-  number-fits most e = read-fits e v (number-at-most most s n)
-
-  module _ (names : List ℕ) (few : Few names) where
-    pub qualifier-fits : r ≡ qualifierOf (fields names) s → Fits w 112 → Fits w n
-    qualifier-fits e = read-fits e v (λ p. omega (arith, qualifier-below (fields names) s n p))
-
-    pub floor-fits : r ≡ floor (fields names) s → Fits w 48 → Fits w n
-    floor-fits e = read-fits e v (λ p. omega (arith, floor-below (fields names) s n p))
-
-    pub scheme-fits : r ≡ schemeOf (fields names) s → Fits w 48 → Fits w n
-    scheme-fits e = read-fits e v (λ p. omega (arith, scheme-between (fields names) s n p .1))
-
-  pub operation-fits : r ≡ operationOf s → Fits w 5 → Fits w n
-  operation-fits e = read-fits e v (λ p. le-of-lt (operation-below s n p))
-
-pub ruleset fits = (number-fits, qualifier-fits, floor-fits, scheme-fits, operation-fits)
+  pub code-fits : Few names → (kind ≡ 110 → ⊥) → (kind ≡ 108 → ⊥) → Fits w8 n
+  unfolding valueOf
+  code-fits few number literal =
+      omega (arith, most (eqb kind 113) (eqb kind 119) (eqb kind 115) (eqb kind 111) (simp (ne-eqb kind 110 number, ne-eqb kind 108 literal) at (sym e ∙ v)))
+    where
+      most : (q w m o : Bool) →
+          cond q (qualifierOf (fields names) s) (cond w (wordOf (fields names) s) (cond m (schemeOf (fields names) s) (cond o (operationOf s) (Value 0)))) ≡ Value n → n ≤ 112
+      most true w m o p = omega (arith, qualifier-below (fields names) s n p)
+      most false true m o p = omega (arith, word-below (fields names) s n p)
+      most false false true o p = omega (arith, scheme-between (fields names) s n p .1)
+      most false false false true p = omega (arith, operation-below s n p)
+      most false false false false p = let zero : 0 ≡ n = cc in omega arith

@@ -1,9 +1,8 @@
 -- The loops that compare bytes and look a word up, and a named variable by its first byte and its number.
-use Prim.Native.Nat.{ℕ, _+_, _-_, _≤_, _<_}
+use Prim.Native.Nat.{ℕ, suc, _+_, _-_, _≤_, _<_}
 use native.Mathlib.Omega.{arith}
-use native.Mathlib.Nat.{add-zero, add-suc}
 use native.Mathlib.Numerals.{add-one}
-use mathlib.Core.Bool.{Bool, true, false}
+use mathlib.Core.Bool.{Bool, true, false, cond}
 use mathlib.Core.List.{List, [], _∷_}
 use mathlib.Core.Path.{_≡_, refl, sym, ap, _∙_}
 use lib.ListN.{length, getD, take, drop, drop-of-length-le}
@@ -13,12 +12,16 @@ use mir.Val.{Fits}
 use borrow.Author.Tests.{eq-eqb, ne-eqb}
 use Rattle.model.specs.Lists.{same, bytes}
 use Rattle.model.specs.Number.{numberOf}
-use Rattle.model.specs.Line.{fields, field}
+use Rattle.model.specs.Line.{fields}
 use Rattle.model.specs.Word.{qualifierWords, capital, capitals, spells, placeIn, wordOf, variableCode, variableOf, qualifierOf}
 use Rattle.model.specs.declared.Field.{Field}
 use Rattle.model.specs.declared.Field.the-variants.{Value, NoValue}
 use Rattle.model.proofs.Lists.{same-length}
 use Rattle.model.proofs.Capitals.{capitals-length, capitals-at}
+use Rattle.line.specs.Part.{fieldsFrom, FieldTo}
+use Rattle.line.specs.Look.{lookFrom, lookUp}
+use Rattle.line.specs.declared.words.Place.{Place}
+use Rattle.line.proofs.Parting.{from-within, from-past}
 use Rattle.line.proofs.Bounds.{number-at-most}
 
 -- After i bytes the rest decides.
@@ -86,39 +89,85 @@ module _ (s word : List ℕ) where
 
 pub ruleset spelling = (spells-length, spells-first, spells-end, spells-differ, spells-next)
 
--- After k words the place is that among the rest.
-pub record Placed (s words : List ℕ) (first n k : ℕ) : Type 0 where
-  pub within : k ≤ n
-  pub all : n ≡ length (fields words)
-  pub rest : placeIn first (fields words) s ≡ placeIn (first + k) (drop k (fields words)) s
+-- After `at` words, of which the next starts at `from`, the place is that among the rest.
+pub record Sought (s words : List ℕ) (at from : ℕ) : Type 0 where
+  pub few : at ≤ from
+  pub rest : lookUp (fields words) s ≡ lookFrom at (fieldsFrom words from) s
 
-module _ (s words : List ℕ) (first n : ℕ) where
-  pub place-first : n ≡ length (fields words) → Placed s words first n 0
-  place-first e = record { within = omega arith; all = e; rest = rw add-zero }
+module _ (s words : List ℕ) where
+  pub look-first : Sought s words 0 0
+  unfolding lookUp
+  look-first = record { few = omega arith; rest = ap (λ (l : List (List ℕ)). lookFrom 0 l s) (sym (from-within words 0 (omega arith))) }
 
-  module _ (k : ℕ) (p : Placed s words first n k) where
-    pub place-end : n ≤ k → NoValue ≡ placeIn first (fields words) s
-    place-end h =
-        let a : n ≡ length (fields words) = p .all in
-        let h′ : length (fields words) ≤ k = omega arith in
-        sym (p .rest ∙ simp (drop-of-length-le (fields words) h′))
+  module _ (at from : ℕ) (p : Sought s words at from) where
+    pub look-end : length words < from → record { found = false; at = at } ≡ lookUp (fields words) s
+    look-end h = sym (p .rest ∙ simp (from-past words from h))
 
-    module _ (h : k < n) (w : List ℕ) (r : Bool) (f : w ≡ field words k) (e : r ≡ spells s w) where
-      pub place-here : r ≡ true → Value (first + k) ≡ placeIn first (fields words) s
-      place-here t =
-          let a : n ≡ length (fields words) = p .all in
-          let h′ : k < length (fields words) = omega arith in
-          let y : spells s (field words k) ≡ true = cc in
-          sym (p .rest ∙ simp (drop-cons (fields words) k [] h′, y))
+    module _ (to : ℕ) (f : FieldTo words from to) (r : Bool) (e : r ≡ spells s (take (to - from) (drop from words))) where
+      pub look-here : r ≡ true → record { found = true; at = at } ≡ lookUp (fields words) s
+      look-here t = sym (p .rest ∙ simp (f .parts, sym e ∙ t))
 
-      pub place-next : r ≡ false → Placed s words first n (k + 1)
-      place-next t =
-          let a : n ≡ length (fields words) = p .all in
-          let h′ : k < length (fields words) = omega arith in
-          let y : spells s (field words k) ≡ false = cc in
-          record { within = omega arith; all = a; rest = p .rest ∙ simp (drop-cons (fields words) k [] h′, y, add-one, add-suc) }
+      pub look-next : r ≡ false → Sought s words (at + 1) (to + 1)
+      look-next t =
+          let few : at ≤ from = p .few in
+          let after : from ≤ to = f .after in
+          record { few = omega arith; rest = p .rest ∙ simp (f .parts, sym e ∙ t) }
 
-pub ruleset places = (place-first, place-end, place-here, place-next)
+pub ruleset looks = (look-first, look-end, look-here, look-next)
+
+-- A place as a code, counted from `first`.
+abbrev coded : ℕ → Place → Field
+coded first p = cond (p .found) (Value (first + p .at)) NoValue
+
+look-coded : (first at : ℕ) (words : List (List ℕ)) (s : List ℕ) → coded first (lookFrom at words s) ≡ placeIn (first + at) words s
+look-coded first at [] s = refl
+look-coded first at (word ∷ words) s = by (spells s word) (let next : first + (at + 1) ≡ first + at + 1 = omega arith in rw next at (look-coded first (at + 1) words s))
+  where
+    by : (t : Bool) → coded first (lookFrom (at + 1) words s) ≡ placeIn (first + at + 1) words s
+        → coded first (cond t (record { found = true; at = at }) (lookFrom (at + 1) words s)) ≡ cond t (Value (first + at)) (placeIn (first + at + 1) words s)
+    by true later = refl
+    by false later = later
+
+-- How many words there are bounds the place, and is the place of a word that is not among them.
+look-most : (at : ℕ) (words : List (List ℕ)) (s : List ℕ) → lookFrom at words s .at ≤ at + length words
+look-most at [] s = omega arith
+look-most at (word ∷ words) s = by (spells s word) (look-most (at + 1) words s)
+  where
+    by : (t : Bool) → lookFrom (at + 1) words s .at ≤ at + 1 + length words → cond t (record { found = true; at = at }) (lookFrom (at + 1) words s) .at ≤ at + suc (length words)
+    by true later = omega arith
+    by false later = omega arith
+
+look-none : (at : ℕ) (words : List (List ℕ)) (s : List ℕ) → lookFrom at words s .found ≡ false → lookFrom at words s .at ≡ at + length words
+look-none at [] s h = omega arith
+look-none at (word ∷ words) s h = by (spells s word) h (look-none (at + 1) words s)
+  where
+    by : (t : Bool) → cond t (record { found = true; at = at }) (lookFrom (at + 1) words s) .found ≡ false
+        → (lookFrom (at + 1) words s .found ≡ false → lookFrom (at + 1) words s .at ≡ at + 1 + length words)
+        → cond t (record { found = true; at = at }) (lookFrom (at + 1) words s) .at ≡ at + suc (length words)
+    by true h later = let z : _≡_ {A = ℕ} 0 1 = cc in absurd (omega arith)
+    by false h later = omega (arith, later h)
+
+module _ (words : List (List ℕ)) (s : List ℕ) (p : Place) (e : p ≡ lookUp words s) where
+  module _ (first : ℕ) where
+    place-coded : coded first p ≡ placeIn first words s
+    unfolding lookUp
+    place-coded = let same : first + 0 ≡ first = omega arith in rw same at (ap (coded first) e ∙ look-coded first 0 words s)
+
+    pub place-found : p .found ≡ true → Value (first + p .at) ≡ placeIn first words s
+    place-found f = rw f at place-coded
+
+    pub place-none : p .found ≡ false → NoValue ≡ placeIn first words s
+    place-none f = rw f at place-coded
+
+  pub place-most : p .at ≤ length words
+  unfolding lookUp
+  place-most = omega (arith, ap (λ (p : Place). p .at) e, look-most 0 words s)
+
+  place-counts : p .found ≡ false → p .at ≡ length words
+  unfolding lookUp
+  place-counts f = omega (arith, ap (λ (p : Place). p .at) e, look-none 0 words s (sym (ap (λ (p : Place). p .found) e) ∙ f))
+
+pub ruleset places = (place-found, place-none)
 
 -- A named variable: its first byte, then its number.
 pub variable-none : (n : ℕ) (s : List ℕ) → length s ≡ 0 → NoValue ≡ variableOf n s
@@ -155,14 +204,23 @@ module _ (names : List (List ℕ)) (s : List ℕ) (r : Bool) (e : r ≡ spells s
   unfolding wordOf
   word-named v t p = simp (sym e ∙ t) p
 
--- A qualifier: a word's place, else a named variable.
-pub word-first : (names : List (List ℕ)) (s : List ℕ) (r : Field) (n : ℕ) → r ≡ wordOf names s → r ≡ Value n → Value n ≡ qualifierOf names s
+-- A qualifier: a word, else a named variable.
+pub qualifier-word : (names : List (List ℕ)) (s : List ℕ) (n : ℕ) → Value n ≡ wordOf names s → Value n ≡ qualifierOf names s
 unfolding qualifierOf
-word-first names s r n e v = simp (sym e ∙ v)
+qualifier-word names s n e = simp (sym e)
 
-pub variable-second : (names : List (List ℕ)) (s : List ℕ) (r l : Field) (n : ℕ) → r ≡ wordOf names s → r ≡ NoValue → n ≡ length names → l ≡ variableOf (n + 1) s →
-    l ≡ qualifierOf names s
-unfolding qualifierOf
-variable-second names s r l n e v counted p =
-    let words : n + 1 ≡ length (qualifierWords names) = omega (arith, counted) in
-    simp (sym e ∙ v) (p ∙ ap (λ (w : ℕ). variableOf w s) words)
+module _ (names : List (List ℕ)) (s : List ℕ) (r : Bool) (e : r ≡ spells s (bytes "PLAIN")) where
+  pub qualifier-plain : r ≡ true → Value 0 ≡ qualifierOf names s
+  qualifier-plain t = qualifier-word names s 0 (word-plain names s r e t)
+
+  module _ (p : Place) (at : p ≡ lookUp names s) (t : r ≡ false) where
+    pub qualifier-named : p .found ≡ true → Value (1 + p .at) ≡ qualifierOf names s
+    qualifier-named f = qualifier-word names s (1 + p .at) (word-named names s r e (Value (1 + p .at)) t (place-found names s p at 1 f))
+
+    pub qualifier-variable : (l : Field) → p .found ≡ false → l ≡ variableOf (p .at + 1) s → l ≡ qualifierOf names s
+    unfolding qualifierOf
+    qualifier-variable l f v =
+        let words : p .at + 1 ≡ length (qualifierWords names) = omega (arith, place-counts names s p at f) in
+        simp (sym (word-named names s r e NoValue t (place-none names s p at 1 f))) (v ∙ ap (λ (w : ℕ). variableOf w s) words)
+
+pub ruleset qualifiers = (qualifier-plain, qualifier-named, qualifier-variable)

@@ -1,205 +1,96 @@
-// The ten forms of a line, where its tag and its kind are known. Every value that is cast was read with a bound that its row holds.
+// The ten forms of a line, each from the values of its fields.
 ghost use mathlib.Core.Path.{_≡_};
-ghost use Rattle.line.specs.Names.{Few};
-ghost use Rattle.model.specs.Line.{fields, intLine, anyLine, arrowLine, paramLine, lamLine, appLine, opLine, varLine, numLine, encLine};
-use crate::fields;
-use crate::values;
-use model::Field;
+ghost use Rattle.model.specs.Line.{choose};
+ghost use Rattle.model.specs.declared.Line.the-variants.{NoForm};
+ghost use Rattle.line.specs.Made.{made, intForm, anyForm, arrowForm, paramForm, lamForm, appForm, opForm, varForm, numForm, encForm};
+use crate::values::Values;
 use model::Line;
 use model::Param;
 use model::Term;
 use model::TypeForm;
 
-// `T,i,INT`
-pub(crate) fn int_line(s: &[u8]) -> Line
-    ensures { λ r. ⌜ r ≡ intLine (now (s .entry)) ⌝ }
+// The line, where all of its values are there.
+fn line_of(all: bool, line: Line) -> Line
+    ensures { λ r. ⌜ r ≡ choose all line NoForm ⌝ }
 {
-    if fields::count(s) != 3 {
-        return Line::NoForm;
+    if all {
+        return line;
     }
-    let Field::Value(i) = values::number(s, 1) else {
-        return Line::NoForm;
-    };
-    Line::TypeLine(i as u16, TypeForm::Int)
+    Line::NoForm
+}
+
+// `T,i,INT`
+pub(crate) fn int(v: Values) -> Line
+    ensures { λ r. ⌜ r ≡ made intForm v ⌝ }
+{
+    line_of(v.all, Line::TypeLine(v.number[1], TypeForm::Int))
 }
 
 // `T,i,ANY`
-pub(crate) fn any_line(s: &[u8]) -> Line
-    ensures { λ r. ⌜ r ≡ anyLine (now (s .entry)) ⌝ }
+pub(crate) fn any(v: Values) -> Line
+    ensures { λ r. ⌜ r ≡ made anyForm v ⌝ }
 {
-    if fields::count(s) != 3 {
-        return Line::NoForm;
-    }
-    let Field::Value(i) = values::number(s, 1) else {
-        return Line::NoForm;
-    };
-    Line::TypeLine(i as u16, TypeForm::Any)
+    line_of(v.all, Line::TypeLine(v.number[1], TypeForm::Any))
 }
 
 // `T,i,ARROW,q,t,q,t`
-pub(crate) fn arrow_line(names: &[u8], s: &[u8]) -> Line
-    requires { ⌜ Few (now names) ⌝ }
-    ensures { λ r. ⌜ r ≡ arrowLine (fields (now (names .entry))) (now (s .entry)) ⌝ }
+pub(crate) fn arrow(v: Values) -> Line
+    ensures { λ r. ⌜ r ≡ made arrowForm v ⌝ }
 {
-    if fields::count(s) != 7 {
-        return Line::NoForm;
-    }
-    let Field::Value(i) = values::number(s, 1) else {
-        return Line::NoForm;
-    };
-    let Field::Value(argument) = values::qualifier(names, s, 3) else {
-        return Line::NoForm;
-    };
-    let Field::Value(from) = values::number(s, 4) else {
-        return Line::NoForm;
-    };
-    let Field::Value(result) = values::qualifier(names, s, 5) else {
-        return Line::NoForm;
-    };
-    let Field::Value(to) = values::number(s, 6) else {
-        return Line::NoForm;
-    };
-    Line::TypeLine(
-        i as u16,
-        TypeForm::Arrow(argument as u8, from as u16, result as u8, to as u16),
-    )
+    let form = TypeForm::Arrow(v.code[3], v.number[4], v.code[5], v.number[6]);
+    line_of(v.all, Line::TypeLine(v.number[1], form))
 }
 
-// `P,p,q,t` or `P,p,q,t,floor`
-pub(crate) fn param_line(names: &[u8], s: &[u8]) -> Line
-    requires { ⌜ Few (now names) ⌝ }
-    ensures { λ r. ⌜ r ≡ paramLine (fields (now (names .entry))) (now (s .entry)) ⌝ }
+// `P,p,q,t`, where no value stands for the floor, which is 0 for PLAIN, or `P,p,q,t,floor`
+pub(crate) fn param(v: Values) -> Line
+    ensures { λ r. ⌜ r ≡ made paramForm v ⌝ }
 {
-    let Field::Value(p) = values::number(s, 1) else {
-        return Line::NoForm;
+    let param = Param {
+        qualifier: v.code[2],
+        floor: v.code[4],
+        typerow: v.number[3],
     };
-    let Field::Value(q) = values::qualifier(names, s, 2) else {
-        return Line::NoForm;
-    };
-    let Field::Value(t) = values::number(s, 3) else {
-        return Line::NoForm;
-    };
-    let Field::Value(floor) = values::floor(names, s) else {
-        return Line::NoForm;
-    };
-    Line::ParamLine(
-        p as u16,
-        Param {
-            qualifier: q as u8,
-            floor: floor as u8,
-            typerow: t as u16,
-        },
-    )
+    line_of(v.all, Line::ParamLine(v.number[1], param))
 }
 
 // `E,i,LAM,p,b`
-pub(crate) fn lam_line(s: &[u8]) -> Line
-    ensures { λ r. ⌜ r ≡ lamLine (now (s .entry)) ⌝ }
+pub(crate) fn lam(v: Values) -> Line
+    ensures { λ r. ⌜ r ≡ made lamForm v ⌝ }
 {
-    if fields::count(s) != 5 {
-        return Line::NoForm;
-    }
-    let Field::Value(i) = values::number(s, 1) else {
-        return Line::NoForm;
-    };
-    let Field::Value(p) = values::number(s, 3) else {
-        return Line::NoForm;
-    };
-    let Field::Value(body) = values::number(s, 4) else {
-        return Line::NoForm;
-    };
-    Line::TermLine(i as u16, Term::Lam(p as u16, body as u16))
+    line_of(v.all, Line::TermLine(v.number[1], Term::Lam(v.number[3], v.number[4])))
 }
 
 // `E,i,APP,f,a`
-pub(crate) fn app_line(s: &[u8]) -> Line
-    ensures { λ r. ⌜ r ≡ appLine (now (s .entry)) ⌝ }
+pub(crate) fn app(v: Values) -> Line
+    ensures { λ r. ⌜ r ≡ made appForm v ⌝ }
 {
-    if fields::count(s) != 5 {
-        return Line::NoForm;
-    }
-    let Field::Value(i) = values::number(s, 1) else {
-        return Line::NoForm;
-    };
-    let Field::Value(function) = values::number(s, 3) else {
-        return Line::NoForm;
-    };
-    let Field::Value(argument) = values::number(s, 4) else {
-        return Line::NoForm;
-    };
-    Line::TermLine(i as u16, Term::App(function as u16, argument as u16))
+    line_of(v.all, Line::TermLine(v.number[1], Term::App(v.number[3], v.number[4])))
 }
 
 // `E,i,OP,o,l,r`
-pub(crate) fn op_line(s: &[u8]) -> Line
-    ensures { λ r. ⌜ r ≡ opLine (now (s .entry)) ⌝ }
+pub(crate) fn op(v: Values) -> Line
+    ensures { λ r. ⌜ r ≡ made opForm v ⌝ }
 {
-    if fields::count(s) != 6 {
-        return Line::NoForm;
-    }
-    let Field::Value(i) = values::number(s, 1) else {
-        return Line::NoForm;
-    };
-    let Field::Value(o) = values::operation(s, 3) else {
-        return Line::NoForm;
-    };
-    let Field::Value(left) = values::number(s, 4) else {
-        return Line::NoForm;
-    };
-    let Field::Value(right) = values::number(s, 5) else {
-        return Line::NoForm;
-    };
-    Line::TermLine(i as u16, Term::Op(o as u8, left as u16, right as u16))
+    line_of(v.all, Line::TermLine(v.number[1], Term::Op(v.code[3], v.number[4], v.number[5])))
 }
 
 // `E,i,VAR,p`
-pub(crate) fn var_line(s: &[u8]) -> Line
-    ensures { λ r. ⌜ r ≡ varLine (now (s .entry)) ⌝ }
+pub(crate) fn var(v: Values) -> Line
+    ensures { λ r. ⌜ r ≡ made varForm v ⌝ }
 {
-    if fields::count(s) != 4 {
-        return Line::NoForm;
-    }
-    let Field::Value(i) = values::number(s, 1) else {
-        return Line::NoForm;
-    };
-    let Field::Value(p) = values::number(s, 3) else {
-        return Line::NoForm;
-    };
-    Line::TermLine(i as u16, Term::Var(p as u16))
+    line_of(v.all, Line::TermLine(v.number[1], Term::Var(v.number[3])))
 }
 
 // `E,i,NUM,n`
-pub(crate) fn num_line(s: &[u8]) -> Line
-    ensures { λ r. ⌜ r ≡ numLine (now (s .entry)) ⌝ }
+pub(crate) fn num(v: Values) -> Line
+    ensures { λ r. ⌜ r ≡ made numForm v ⌝ }
 {
-    if fields::count(s) != 4 {
-        return Line::NoForm;
-    }
-    let Field::Value(i) = values::number(s, 1) else {
-        return Line::NoForm;
-    };
-    let Field::Value(n) = values::literal(s, 3) else {
-        return Line::NoForm;
-    };
-    Line::TermLine(i as u16, Term::Num(n))
+    line_of(v.all, Line::TermLine(v.number[1], Term::Num(v.literal)))
 }
 
 // `E,i,ENC,s,n`
-pub(crate) fn enc_line(names: &[u8], s: &[u8]) -> Line
-    requires { ⌜ Few (now names) ⌝ }
-    ensures { λ r. ⌜ r ≡ encLine (fields (now (names .entry))) (now (s .entry)) ⌝ }
+pub(crate) fn enc(v: Values) -> Line
+    ensures { λ r. ⌜ r ≡ made encForm v ⌝ }
 {
-    if fields::count(s) != 5 {
-        return Line::NoForm;
-    }
-    let Field::Value(i) = values::number(s, 1) else {
-        return Line::NoForm;
-    };
-    let Field::Value(e) = values::scheme(names, s, 3) else {
-        return Line::NoForm;
-    };
-    let Field::Value(n) = values::literal(s, 4) else {
-        return Line::NoForm;
-    };
-    Line::TermLine(i as u16, Term::Enc(e as u8, n))
+    line_of(v.all, Line::TermLine(v.number[1], Term::Enc(v.code[3], v.literal)))
 }

@@ -1,74 +1,84 @@
-// What stands in field k of a line: a number, a word's code, or a given word.
+// The values that stand in the fields of a line, by the kinds of its form.
 ghost use mathlib.Core.Path.{_≡_};
+ghost use Prim.Native.Nat.{_≤_};
+ghost use lib.ListN.{length};
 ghost use Rattle.line.specs.Names.{Few};
-ghost use Rattle.model.specs.Line.{fields, number, literal, qualifier, floor, scheme, operation, kind, tag};
+ghost use Rattle.line.specs.Form.{valueOf, valuesOf};
+ghost use Rattle.model.specs.Line.{fields};
 use crate::fields;
 use crate::numbers;
 use crate::words;
 use model::Field;
 
-// A row's or a parameter's number: 0 to 65535.
-pub(crate) fn number(s: &[u8], k: usize) -> Field
-    ensures { λ r. ⌜ r ≡ number (now (s .entry)) k ⌝ }
-{
-    numbers::number_in(fields::field(s, k), 65535)
+// The most fields that a form has.
+const FIELDS: usize = 7;
+
+// The largest number of a row or a parameter, and the largest number of a NUM or an ENC.
+const NUMBER: u32 = 65535;
+const LITERAL: u32 = 4294967295;
+
+// Whether the fields are those of the form, and their values: numbers and codes by the field, and the one literal that a form may have.
+pub struct Values {
+    pub all: bool,
+    pub number: [u16; FIELDS],
+    pub code: [u8; FIELDS],
+    pub literal: u32,
 }
 
-// The number of a NUM or an ENC: 0 to 4294967295.
-pub(crate) fn literal(s: &[u8], k: usize) -> Field
-    ensures { λ r. ⌜ r ≡ literal (now (s .entry)) k ⌝ }
-{
-    numbers::number_in(fields::field(s, k), 4294967295)
-}
-
-// A qualifier's code.
-pub(crate) fn qualifier(names: &[u8], s: &[u8], k: usize) -> Field
+// What stands in a field, by the letter of its kind; a tag's or a row's kind's letter has 0.
+fn value(names: &[u8], kind: u8, s: &[u8]) -> Field
     requires { ⌜ Few (now names) ⌝ }
-    ensures { λ r. ⌜ r ≡ qualifier (fields (now (names .entry))) (now (s .entry)) k ⌝ }
+    ensures { λ r. ⌜ r ≡ valueOf (fields (now (names .entry))) kind (now (s .entry)) ⌝ }
 {
-    words::qualifier_in(names, fields::field(s, k))
-}
-
-// A parameter's floor, the code of a word: PLAIN in a line of four fields, the last field of five.
-pub(crate) fn floor(names: &[u8], s: &[u8]) -> Field
-    requires { ⌜ Few (now names) ⌝ }
-    ensures { λ r. ⌜ r ≡ floor (fields (now (names .entry))) (now (s .entry)) ⌝ }
-{
-    let n = fields::count(s);
-    if n == 4 {
-        return Field::Value(0);
+    match kind {
+        b'n' => numbers::number_in(s, NUMBER),
+        b'l' => numbers::number_in(s, LITERAL),
+        b'q' => words::qualifier_in(names, s),
+        b'w' => words::word_in(names, s),
+        b's' => words::scheme_in(names, s),
+        b'o' => words::operation_in(s),
+        _ => Field::Value(0),
     }
-    if n == 5 {
-        return words::word_in(names, fields::field(s, 4));
+}
+
+// The values of a line's fields, where there is one letter for the kind of each.
+pub(crate) fn read(names: &[u8], kinds: &[u8], s: &[u8]) -> Values
+    requires { ⌜ Few (now names) × (length (now kinds) ≤ 7) ⌝ }
+    ensures { λ r. ⌜ r ≡ valuesOf (fields (now (names .entry))) (now (kinds .entry)) (fields (now (s .entry))) ⌝ }
+{
+    let mut v = Values {
+        all: false,
+        number: [0; FIELDS],
+        code: [0; FIELDS],
+        literal: 0,
+    };
+    let mut k: usize = 0;
+    let mut from: usize = 0;
+    while k < kinds.len() {
+        if s.len() < from {
+            return v;
+        }
+        let to = fields::end(s, from);
+        let kind = kinds[k];
+        let Field::Value(n) = value(names, kind, &s[from..to]) else {
+            return v;
+        };
+        from = to + 1;
+        match kind {
+            b'n' => {
+                v.number[k] = n as u16;
+                k += 1;
+            }
+            b'l' => {
+                v.literal = n;
+                k += 1;
+            }
+            _ => {
+                v.code[k] = n as u8;
+                k += 1;
+            }
+        }
     }
-    Field::NoValue
-}
-
-// A scheme's code, from 1 on.
-pub(crate) fn scheme(names: &[u8], s: &[u8], k: usize) -> Field
-    requires { ⌜ Few (now names) ⌝ }
-    ensures { λ r. ⌜ r ≡ scheme (fields (now (names .entry))) (now (s .entry)) k ⌝ }
-{
-    words::scheme_in(names, fields::field(s, k))
-}
-
-// An operation's code: 0 to 4.
-pub(crate) fn operation(s: &[u8], k: usize) -> Field
-    ensures { λ r. ⌜ r ≡ operation (now (s .entry)) k ⌝ }
-{
-    words::operation_in(fields::field(s, k))
-}
-
-// Whether field 2, where the kind of a row stands, spells the word.
-pub(crate) fn kind(s: &[u8], word: &[u8]) -> bool
-    ensures { λ r. ⌜ r ≡ kind (now (s .entry)) (now (word .entry)) ⌝ }
-{
-    words::spells(fields::field(s, 2), word)
-}
-
-// Whether field 0, where the tag stands, is the letter.
-pub(crate) fn tag(s: &[u8], letter: &[u8]) -> bool
-    ensures { λ r. ⌜ r ≡ tag (now (s .entry)) (now (letter .entry)) ⌝ }
-{
-    words::same(fields::field(s, 0), letter)
+    v.all = s.len() < from;
+    v
 }

@@ -5,6 +5,7 @@ ghost use lib.ListN.{length};
 ghost use Rattle.model.specs.Lists.{same};
 ghost use Rattle.model.specs.Line.{fields};
 ghost use Rattle.line.specs.Names.{Few};
+ghost use Rattle.line.specs.Look.{lookUp};
 ghost use Rattle.model.specs.Word.{capital, spells, placeIn, wordOf, variableOf, qualifierOf, schemeOf, operationOf};
 use crate::fields;
 use crate::numbers;
@@ -54,18 +55,37 @@ pub(crate) fn spells(s: &[u8], word: &[u8]) -> bool
     true
 }
 
-// The place of the bytes among words that are parted by commas, counted from `first`.
+// A place among words: where one was found, or else the place after the last, which is how many there are.
+pub struct Place {
+    pub found: bool,
+    pub at: usize,
+}
+
+// The place of the bytes among words that are parted by commas.
+fn look_up(s: &[u8], words: &[u8]) -> Place
+    ensures { λ r. ⌜ r ≡ lookUp (fields (now (words .entry))) (now (s .entry)) ⌝ }
+{
+    let mut at: usize = 0;
+    let mut from: usize = 0;
+    while from <= words.len() {
+        let to = fields::end(words, from);
+        if spells(s, &words[from..to]) {
+            return Place { found: true, at };
+        }
+        at += 1;
+        from = to + 1;
+    }
+    Place { found: false, at }
+}
+
+// The same as a code, counted from `first`.
 fn place_in(s: &[u8], words: &[u8], first: u32) -> Field
     requires { ⌜ first + length (fields (now words)) ≤ 4294967295 ⌝ }
     ensures { λ r. ⌜ r ≡ placeIn first (fields (now (words .entry))) (now (s .entry)) ⌝ }
 {
-    let n = fields::count(words);
-    let mut k = 0;
-    while k < n {
-        if spells(s, fields::field(words, k)) {
-            return Field::Value(first + k as u32);
-        }
-        k += 1;
+    let place = look_up(s, words);
+    if place.found {
+        return Field::Value(first + place.at as u32);
     }
     Field::NoValue
 }
@@ -118,8 +138,12 @@ pub(crate) fn qualifier_in(names: &[u8], s: &[u8]) -> Field
     requires { ⌜ Few (now names) ⌝ }
     ensures { λ r. ⌜ r ≡ qualifierOf (fields (now (names .entry))) (now (s .entry)) ⌝ }
 {
-    match word_in(names, s) {
-        Field::Value(c) => Field::Value(c),
-        Field::NoValue => variable_in(fields::count(names) + 1, s),
+    if spells(s, b"PLAIN") {
+        return Field::Value(0);
     }
+    let place = look_up(s, names);
+    if place.found {
+        return Field::Value(1 + place.at as u32);
+    }
+    variable_in(place.at + 1, s)
 }

@@ -1,6 +1,7 @@
--- The words come first, then the named variables.
+-- The words come first, then the named variables, whose codes follow the number of words.
+use native.Mathlib.Omega.{arith}
 use borrow.Author.Needs.{needs}
-use Rattle.line.proofs.Spelling.{word-first, variable-second}
+use Rattle.line.proofs.Spelling.{place-most, qualifiers}
 use Rattle.line.proofs.words.qualifier_in.Statement.{statement}
 use Rattle.line.proofs.words.qualifier_in.Tie as tie
 
@@ -8,11 +9,13 @@ pub qualifier-in-spec : {M : Type 1} → statement M
 qualifier-in-spec =
     tie.close
     (tie.spec
-    (λ c κs. search needs)
-    (λ c. search needs)
     (λ c. search needs)
     (λ c κs. search needs)
-    (λ c. search needs)
+    (λ c. search (qualifiers, needs))
     (λ c κs. search needs)
-    (λ c. search (word-first, needs))
-    (λ c. search (variable-second, needs)))
+    (λ c. omega (arith, place-most _ _ _ (c .before .before .look-up .ensures)))
+    (λ c. omega (arith, place-most _ _ _ (c .before .before .look-up .ensures)))
+    (λ c. search (qualifiers, needs))
+    (λ c. omega (arith, place-most _ _ _ (c .before .before .look-up .ensures)))
+    (λ c κs. omega (arith, place-most _ _ _ (c .before .before .look-up .ensures)))
+    (λ c. search (qualifiers, needs)))
