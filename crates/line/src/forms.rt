@@ -57,21 +57,30 @@ pub(crate) fn param(v: Values) -> Line
 pub(crate) fn lam(v: Values) -> Line
     ensures { λ r. ⌜ r ≡ made lamForm v ⌝ }
 {
-    line_of(v.all, Line::TermLine(v.number[1], Term::Lam(v.number[3], v.number[4])))
+    line_of(
+        v.all,
+        Line::TermLine(v.number[1], Term::Lam(v.number[3], v.number[4])),
+    )
 }
 
 // `E,i,APP,f,a`
 pub(crate) fn app(v: Values) -> Line
     ensures { λ r. ⌜ r ≡ made appForm v ⌝ }
 {
-    line_of(v.all, Line::TermLine(v.number[1], Term::App(v.number[3], v.number[4])))
+    line_of(
+        v.all,
+        Line::TermLine(v.number[1], Term::App(v.number[3], v.number[4])),
+    )
 }
 
 // `E,i,OP,o,l,r`
 pub(crate) fn op(v: Values) -> Line
     ensures { λ r. ⌜ r ≡ made opForm v ⌝ }
 {
-    line_of(v.all, Line::TermLine(v.number[1], Term::Op(v.code[3], v.number[4], v.number[5])))
+    line_of(
+        v.all,
+        Line::TermLine(v.number[1], Term::Op(v.code[3], v.number[4], v.number[5])),
+    )
 }
 
 // `E,i,VAR,p`
@@ -92,5 +101,8 @@ pub(crate) fn num(v: Values) -> Line
 pub(crate) fn enc(v: Values) -> Line
     ensures { λ r. ⌜ r ≡ made encForm v ⌝ }
 {
-    line_of(v.all, Line::TermLine(v.number[1], Term::Enc(v.code[3], v.literal)))
+    line_of(
+        v.all,
+        Line::TermLine(v.number[1], Term::Enc(v.code[3], v.literal)),
+    )
 }

@@ -15,6 +15,7 @@ const FIELDS: usize = 7;
 
 // The largest number of a row or a parameter, and the largest number of a NUM or an ENC.
 const NUMBER: u32 = 65535;
+
 const LITERAL: u32 = 4294967295;
 
 // Whether the fields are those of the form, and their values: numbers and codes by the field, and the one literal that a form may have.
