@@ -109,13 +109,10 @@ module _ (names : List ℕ) (kind : ℕ) (s : List ℕ) (r : Field) (n : ℕ) (e
 
   pub code-fits : Few names → (kind ≡ 110 → ⊥) → (kind ≡ 108 → ⊥) → Fits w8 n
   unfolding valueOf
-  code-fits few number literal =
-      omega (arith, most (eqb kind 113) (eqb kind 119) (eqb kind 115) (eqb kind 111) (simp (ne-eqb kind 110 number, ne-eqb kind 108 literal) at (sym e ∙ v)))
+  code-fits few number literal = omega (arith, most (eqb kind 113) (eqb kind 119) (eqb kind 115) (simp (ne-eqb kind 110 number, ne-eqb kind 108 literal) at (sym e ∙ v)))
     where
-      most : (q w m o : Bool) →
-          cond q (qualifierOf (fields names) s) (cond w (wordOf (fields names) s) (cond m (schemeOf (fields names) s) (cond o (operationOf s) (Value 0)))) ≡ Value n → n ≤ 112
-      most true w m o p = omega (arith, qualifier-below (fields names) s n p)
-      most false true m o p = omega (arith, word-below (fields names) s n p)
-      most false false true o p = omega (arith, scheme-between (fields names) s n p .1)
-      most false false false true p = omega (arith, operation-below s n p)
-      most false false false false p = let zero : 0 ≡ n = cc in omega arith
+      most : (q w m : Bool) → cond q (qualifierOf (fields names) s) (cond w (wordOf (fields names) s) (cond m (schemeOf (fields names) s) (operationOf s))) ≡ Value n → n ≤ 112
+      most true w m p = omega (arith, qualifier-below (fields names) s n p)
+      most false true m p = omega (arith, word-below (fields names) s n p)
+      most false false true p = omega (arith, scheme-between (fields names) s n p .1)
+      most false false false p = omega (arith, operation-below s n p)

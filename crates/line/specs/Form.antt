@@ -1,4 +1,4 @@
--- The values that stand in the fields of a line, by the kinds of its form: one letter for each field.
+-- The values that stand in a form's fields, by their kinds: one letter for each field.
 -- Document 01, "Lines and the table"; document 02, a) and d).
 use Prim.Native.Nat.{ℕ, _+_}
 use mathlib.Core.Bool.{Bool, true, false, cond}
@@ -18,20 +18,18 @@ isNumber kind = eqb kind 110
 abbrev pub isLiteral : ℕ → Bool
 isLiteral kind = eqb kind 108
 
--- What stands in a field: `n` is a number, `l` a literal, `q` a qualifier, `w` a qualifier's word, `s` a scheme, `o` an operation.
--- Any other letter is that of a tag or of a row's kind, by which the form was found.
+-- What stands in a field: `n` is a number, `l` a literal, `q` a qualifier, `w` a qualifier's word, `s` a scheme, and any other letter, as `o`, an operation.
 unfoldable pub valueOf : List (List ℕ) → ℕ → List ℕ → Field
 valueOf names kind s =
     cond (isNumber kind) (numberOf 65535 s)
     (cond (isLiteral kind) (numberOf 4294967295 s)
     (cond (eqb kind 113) (qualifierOf names s)
     (cond (eqb kind 119) (wordOf names s)
-    (cond (eqb kind 115) (schemeOf names s)
-    (cond (eqb kind 111) (operationOf s) (Value 0))))))
+    (cond (eqb kind 115) (schemeOf names s) (operationOf s)))))
 
 -- Before any field was read.
 abbrev pub noValues : Values
-noValues = record { all = false; number = replicate 7 0; code = replicate 7 0; literal = 0 }
+noValues = record { all = false; number = replicate 4 0; code = replicate 4 0; literal = 0 }
 
 -- Field k has the value n.
 abbrev pub put : ℕ → ℕ → ℕ → Values → Values

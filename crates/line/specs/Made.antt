@@ -1,4 +1,4 @@
--- The line that the values of a form make: each stands at its field's place.
+-- The line that an own number and the values of a form make.
 -- Document 01, "Lines and the table".
 use Prim.Native.Nat.{ℕ}
 use lib.ListN.{getD}
@@ -19,32 +19,42 @@ numberAt v k = getD (v .number) k 0
 abbrev codeAt : Values → ℕ → ℕ
 codeAt v k = getD (v .code) k 0
 
-abbrev pub intForm : Values → Line
-intForm v = TypeLine (numberAt v 1) Int
+-- `T,i,INT`
+abbrev pub intForm : ℕ → Values → Line
+intForm i v = TypeLine i Int
 
-abbrev pub anyForm : Values → Line
-anyForm v = TypeLine (numberAt v 1) Any
+-- `T,i,ANY`
+abbrev pub anyForm : ℕ → Values → Line
+anyForm i v = TypeLine i Any
 
-abbrev pub arrowForm : Values → Line
-arrowForm v = TypeLine (numberAt v 1) (Arrow (codeAt v 3) (numberAt v 4) (codeAt v 5) (numberAt v 6))
+-- `T,i,ARROW,q,t,q,t`
+abbrev pub arrowForm : ℕ → Values → Line
+arrowForm i v = TypeLine i (Arrow (codeAt v 0) (numberAt v 1) (codeAt v 2) (numberAt v 3))
 
-abbrev pub paramForm : Values → Line
-paramForm v = ParamLine (numberAt v 1) (record { qualifier = codeAt v 2; floor = codeAt v 4; typerow = numberAt v 3 })
+-- `P,p,q,t` or `P,p,q,t,floor`
+abbrev pub paramForm : ℕ → Values → Line
+paramForm p v = ParamLine p (record { qualifier = codeAt v 0; floor = codeAt v 2; typerow = numberAt v 1 })
 
-abbrev pub lamForm : Values → Line
-lamForm v = TermLine (numberAt v 1) (Lam (numberAt v 3) (numberAt v 4))
+-- `E,i,LAM,p,b`
+abbrev pub lamForm : ℕ → Values → Line
+lamForm i v = TermLine i (Lam (numberAt v 0) (numberAt v 1))
 
-abbrev pub appForm : Values → Line
-appForm v = TermLine (numberAt v 1) (App (numberAt v 3) (numberAt v 4))
+-- `E,i,APP,f,a`
+abbrev pub appForm : ℕ → Values → Line
+appForm i v = TermLine i (App (numberAt v 0) (numberAt v 1))
 
-abbrev pub opForm : Values → Line
-opForm v = TermLine (numberAt v 1) (Op (codeAt v 3) (numberAt v 4) (numberAt v 5))
+-- `E,i,OP,o,l,r`
+abbrev pub opForm : ℕ → Values → Line
+opForm i v = TermLine i (Op (codeAt v 0) (numberAt v 1) (numberAt v 2))
 
-abbrev pub varForm : Values → Line
-varForm v = TermLine (numberAt v 1) (Var (numberAt v 3))
+-- `E,i,VAR,p`
+abbrev pub varForm : ℕ → Values → Line
+varForm i v = TermLine i (Var (numberAt v 0))
 
-abbrev pub numForm : Values → Line
-numForm v = TermLine (numberAt v 1) (Num (v .literal))
+-- `E,i,NUM,n`
+abbrev pub numForm : ℕ → Values → Line
+numForm i v = TermLine i (Num (v .literal))
 
-abbrev pub encForm : Values → Line
-encForm v = TermLine (numberAt v 1) (Enc (codeAt v 3) (v .literal))
+-- `E,i,ENC,s,n`
+abbrev pub encForm : ℕ → Values → Line
+encForm i v = TermLine i (Enc (codeAt v 0) (v .literal))

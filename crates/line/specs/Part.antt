@@ -5,7 +5,8 @@ use mathlib.Core.List.{List, [], _∷_}
 use mathlib.Core.Path.{_≡_}
 use lib.Dec.{leb}
 use lib.ListN.{length, take, drop}
-use Rattle.model.specs.Line.{fields, field}
+use Rattle.model.specs.Line.{fields, field, number}
+use Rattle.model.specs.declared.Field.the-variants.{Value}
 
 -- The fields of what stands from i on; past the end there is none.
 unfoldable pub fieldsFrom : List ℕ → ℕ → List (List ℕ)
@@ -21,3 +22,9 @@ pub record FieldTo (s : List ℕ) (from to : ℕ) : Type 0 where
   pub after : from ≤ to
   pub within : to ≤ length s
   pub parts : fieldsFrom s from ≡ take (to - from) (drop from s) ∷ fieldsFrom s (to + 1)
+
+-- A line's own number, in field 1, is i, and `rest` are its fields after the first `before`.
+pub record Begun (s : List ℕ) (i before : ℕ) (rest : List (List ℕ)) : Type 0 where
+  pub own : number s 1 ≡ Value i
+  pub enough : before ≤ length (fields s)
+  pub left : drop before (fields s) ≡ rest

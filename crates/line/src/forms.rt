@@ -1,4 +1,4 @@
-// The ten forms of a line, each from the values of its fields.
+// The ten forms of a line, each from the line's own number and the values of its form's fields.
 ghost use mathlib.Core.Path.{_≡_};
 ghost use Rattle.model.specs.Line.{choose};
 ghost use Rattle.model.specs.declared.Line.the-variants.{NoForm};
@@ -20,89 +20,81 @@ fn line_of(all: bool, line: Line) -> Line
 }
 
 // `T,i,INT`
-pub(crate) fn int(v: Values) -> Line
-    ensures { λ r. ⌜ r ≡ made intForm v ⌝ }
+pub(crate) fn int(i: u16, v: Values) -> Line
+    ensures { λ r. ⌜ r ≡ made (intForm i) v ⌝ }
 {
-    line_of(v.all, Line::TypeLine(v.number[1], TypeForm::Int))
+    line_of(v.all, Line::TypeLine(i, TypeForm::Int))
 }
 
 // `T,i,ANY`
-pub(crate) fn any(v: Values) -> Line
-    ensures { λ r. ⌜ r ≡ made anyForm v ⌝ }
+pub(crate) fn any(i: u16, v: Values) -> Line
+    ensures { λ r. ⌜ r ≡ made (anyForm i) v ⌝ }
 {
-    line_of(v.all, Line::TypeLine(v.number[1], TypeForm::Any))
+    line_of(v.all, Line::TypeLine(i, TypeForm::Any))
 }
 
 // `T,i,ARROW,q,t,q,t`
-pub(crate) fn arrow(v: Values) -> Line
-    ensures { λ r. ⌜ r ≡ made arrowForm v ⌝ }
+pub(crate) fn arrow(i: u16, v: Values) -> Line
+    ensures { λ r. ⌜ r ≡ made (arrowForm i) v ⌝ }
 {
-    let form = TypeForm::Arrow(v.code[3], v.number[4], v.code[5], v.number[6]);
-    line_of(v.all, Line::TypeLine(v.number[1], form))
+    let form = TypeForm::Arrow(v.code[0], v.number[1], v.code[2], v.number[3]);
+    line_of(v.all, Line::TypeLine(i, form))
 }
 
-// `P,p,q,t`, where no value stands for the floor, which is 0 for PLAIN, or `P,p,q,t,floor`
-pub(crate) fn param(v: Values) -> Line
-    ensures { λ r. ⌜ r ≡ made paramForm v ⌝ }
+// `P,p,q,t` or `P,p,q,t,floor`: where no floor stands its code is 0, for PLAIN
+pub(crate) fn param(p: u16, v: Values) -> Line
+    ensures { λ r. ⌜ r ≡ made (paramForm p) v ⌝ }
 {
     let param = Param {
-        qualifier: v.code[2],
-        floor: v.code[4],
-        typerow: v.number[3],
+        qualifier: v.code[0],
+        floor: v.code[2],
+        typerow: v.number[1],
     };
-    line_of(v.all, Line::ParamLine(v.number[1], param))
+    line_of(v.all, Line::ParamLine(p, param))
 }
 
 // `E,i,LAM,p,b`
-pub(crate) fn lam(v: Values) -> Line
-    ensures { λ r. ⌜ r ≡ made lamForm v ⌝ }
+pub(crate) fn lam(i: u16, v: Values) -> Line
+    ensures { λ r. ⌜ r ≡ made (lamForm i) v ⌝ }
 {
-    line_of(
-        v.all,
-        Line::TermLine(v.number[1], Term::Lam(v.number[3], v.number[4])),
-    )
+    let term = Term::Lam(v.number[0], v.number[1]);
+    line_of(v.all, Line::TermLine(i, term))
 }
 
 // `E,i,APP,f,a`
-pub(crate) fn app(v: Values) -> Line
-    ensures { λ r. ⌜ r ≡ made appForm v ⌝ }
+pub(crate) fn app(i: u16, v: Values) -> Line
+    ensures { λ r. ⌜ r ≡ made (appForm i) v ⌝ }
 {
-    line_of(
-        v.all,
-        Line::TermLine(v.number[1], Term::App(v.number[3], v.number[4])),
-    )
+    let term = Term::App(v.number[0], v.number[1]);
+    line_of(v.all, Line::TermLine(i, term))
 }
 
 // `E,i,OP,o,l,r`
-pub(crate) fn op(v: Values) -> Line
-    ensures { λ r. ⌜ r ≡ made opForm v ⌝ }
+pub(crate) fn op(i: u16, v: Values) -> Line
+    ensures { λ r. ⌜ r ≡ made (opForm i) v ⌝ }
 {
-    line_of(
-        v.all,
-        Line::TermLine(v.number[1], Term::Op(v.code[3], v.number[4], v.number[5])),
-    )
+    let term = Term::Op(v.code[0], v.number[1], v.number[2]);
+    line_of(v.all, Line::TermLine(i, term))
 }
 
 // `E,i,VAR,p`
-pub(crate) fn var(v: Values) -> Line
-    ensures { λ r. ⌜ r ≡ made varForm v ⌝ }
+pub(crate) fn var(i: u16, v: Values) -> Line
+    ensures { λ r. ⌜ r ≡ made (varForm i) v ⌝ }
 {
-    line_of(v.all, Line::TermLine(v.number[1], Term::Var(v.number[3])))
+    line_of(v.all, Line::TermLine(i, Term::Var(v.number[0])))
 }
 
 // `E,i,NUM,n`
-pub(crate) fn num(v: Values) -> Line
-    ensures { λ r. ⌜ r ≡ made numForm v ⌝ }
+pub(crate) fn num(i: u16, v: Values) -> Line
+    ensures { λ r. ⌜ r ≡ made (numForm i) v ⌝ }
 {
-    line_of(v.all, Line::TermLine(v.number[1], Term::Num(v.literal)))
+    line_of(v.all, Line::TermLine(i, Term::Num(v.literal)))
 }
 
 // `E,i,ENC,s,n`
-pub(crate) fn enc(v: Values) -> Line
-    ensures { λ r. ⌜ r ≡ made encForm v ⌝ }
+pub(crate) fn enc(i: u16, v: Values) -> Line
+    ensures { λ r. ⌜ r ≡ made (encForm i) v ⌝ }
 {
-    line_of(
-        v.all,
-        Line::TermLine(v.number[1], Term::Enc(v.code[3], v.literal)),
-    )
+    let term = Term::Enc(v.code[0], v.literal);
+    line_of(v.all, Line::TermLine(i, term))
 }

@@ -1,4 +1,4 @@
-// Reads a line: which of the ten forms its bytes are, with the numbers and codes that stand in it. A form is a text with the letter of each field's kind.
+// Reads a line: which of the ten forms its bytes are, with the numbers and codes that stand in it. A form's fields are told by one letter for the kind of each.
 pub mod fields;
 mod forms;
 pub mod numbers;
@@ -6,71 +6,108 @@ mod values;
 pub mod words;
 
 ghost use mathlib.Core.Path.{_≡_};
+ghost use Prim.Native.Nat.{_≤_};
+ghost use lib.ListN.{length};
 ghost use Rattle.line.specs.Names.{Few};
-ghost use Rattle.model.specs.Line.{fields, field, typeLine, paramLine, leafLine, termLine, lineOf};
+ghost use Rattle.line.specs.Part.{fieldsFrom, Begun};
+ghost use Rattle.model.specs.Line.{fields, typeLine, paramLine, leafLine, termLine, lineOf};
+use model::Field;
 use model::Line;
 
-fn type_line(names: &[u8], s: &[u8]) -> Line
-    requires { ⌜ Few (now names) ⌝ }
+// A type row of the number i, whose kind starts at `from`.
+fn type_line(names: &[u8], s: &[u8], i: u16, from: usize) -> Line
+    requires { ⌜ Few (now names) × Begun (now s) i 2 (fieldsFrom (now s) from) ⌝ }
     ensures { λ r. ⌜ r ≡ typeLine (fields (now (names .entry))) (now (s .entry)) ⌝ }
 {
-    let kind = fields::field(s, 2);
+    if s.len() < from {
+        return Line::NoForm;
+    }
+    let to = fields::end(s, from);
+    let kind = &s[from..to];
     if words::spells(kind, b"INT") {
-        return forms::int(values::read(names, b".n.", s));
+        return forms::int(i, values::read(names, b"", s, to + 1));
     }
     if words::spells(kind, b"ANY") {
-        return forms::any(values::read(names, b".n.", s));
+        return forms::any(i, values::read(names, b"", s, to + 1));
     }
     if words::spells(kind, b"ARROW") {
-        return forms::arrow(values::read(names, b".n.qnqn", s));
+        return forms::arrow(i, values::read(names, b"qnqn", s, to + 1));
     }
     Line::NoForm
 }
 
-// A parameter without a floor, or else with one.
-fn param_line(names: &[u8], s: &[u8]) -> Line
-    requires { ⌜ Few (now names) ⌝ }
+// A parameter of the number p, whose qualifier starts at `from`: without a floor, or else with one.
+fn param_line(names: &[u8], s: &[u8], p: u16, from: usize) -> Line
+    requires { ⌜ Few (now names) × Begun (now s) p 2 (fieldsFrom (now s) from) ⌝ }
     ensures { λ r. ⌜ r ≡ paramLine (fields (now (names .entry))) (now (s .entry)) ⌝ }
 {
-    let v = values::read(names, b".nqn", s);
+    let v = values::read(names, b"qn", s, from);
     if v.all {
-        return forms::param(v);
+        return forms::param(p, v);
     }
-    forms::param(values::read(names, b".nqnw", s))
+    forms::param(p, values::read(names, b"qnw", s, from))
 }
 
-// The kinds of term row without children; `kind` is the word of the kind.
-fn leaf_line(names: &[u8], s: &[u8], kind: &[u8]) -> Line
-    requires { ⌜ Few (now names) × (now kind ≡ field (now s) 2) ⌝ }
+// A term row without children.
+fn leaf_line(names: &[u8], s: &[u8], i: u16, from: usize) -> Line
+    requires { ⌜ Few (now names) × Begun (now s) i 2 (fieldsFrom (now s) from) ⌝ }
     ensures { λ r. ⌜ r ≡ leafLine (fields (now (names .entry))) (now (s .entry)) ⌝ }
 {
+    if s.len() < from {
+        return Line::NoForm;
+    }
+    let to = fields::end(s, from);
+    let kind = &s[from..to];
     if words::spells(kind, b"VAR") {
-        return forms::var(values::read(names, b".n.n", s));
+        return forms::var(i, values::read(names, b"n", s, to + 1));
     }
     if words::spells(kind, b"NUM") {
-        return forms::num(values::read(names, b".n.l", s));
+        return forms::num(i, values::read(names, b"l", s, to + 1));
     }
     if words::spells(kind, b"ENC") {
-        return forms::enc(values::read(names, b".n.sl", s));
+        return forms::enc(i, values::read(names, b"sl", s, to + 1));
     }
     Line::NoForm
 }
 
-fn term_line(names: &[u8], s: &[u8]) -> Line
-    requires { ⌜ Few (now names) ⌝ }
+// A term row of the number i, whose kind starts at `from`.
+fn term_line(names: &[u8], s: &[u8], i: u16, from: usize) -> Line
+    requires { ⌜ Few (now names) × Begun (now s) i 2 (fieldsFrom (now s) from) ⌝ }
     ensures { λ r. ⌜ r ≡ termLine (fields (now (names .entry))) (now (s .entry)) ⌝ }
 {
-    let kind = fields::field(s, 2);
+    if s.len() < from {
+        return Line::NoForm;
+    }
+    let to = fields::end(s, from);
+    let kind = &s[from..to];
     if words::spells(kind, b"LAM") {
-        return forms::lam(values::read(names, b".n.nn", s));
+        return forms::lam(i, values::read(names, b"nn", s, to + 1));
     }
     if words::spells(kind, b"APP") {
-        return forms::app(values::read(names, b".n.nn", s));
+        return forms::app(i, values::read(names, b"nn", s, to + 1));
     }
     if words::spells(kind, b"OP") {
-        return forms::op(values::read(names, b".n.onn", s));
+        return forms::op(i, values::read(names, b"onn", s, to + 1));
     }
-    leaf_line(names, s, kind)
+    leaf_line(names, s, i, from)
+}
+
+// A line of the number i, whose field after that starts at `from`, by its tag.
+fn tagged_line(names: &[u8], s: &[u8], i: u16, from: usize) -> Line
+    requires { ⌜ Few (now names) × (length (now s) ≤ 64) × Begun (now s) i 2 (fieldsFrom (now s) from) ⌝ }
+    ensures { λ r. ⌜ r ≡ lineOf (fields (now (names .entry))) (now (s .entry)) ⌝ }
+{
+    let tag = fields::field(s, 0);
+    if words::same(tag, b"T") {
+        return type_line(names, s, i, from);
+    }
+    if words::same(tag, b"P") {
+        return param_line(names, s, i, from);
+    }
+    if words::same(tag, b"E") {
+        return term_line(names, s, i, from);
+    }
+    Line::NoForm
 }
 
 // What a line enters, and under which number, by the names of a scheme table; bytes of any count may be given.
@@ -81,15 +118,13 @@ pub fn read(names: &[u8], s: &[u8]) -> Line
     if s.len() > 64 {
         return Line::NoForm;
     }
-    let tag = fields::field(s, 0);
-    if words::same(tag, b"T") {
-        return type_line(names, s);
+    let from = fields::end(s, 0) + 1;
+    if s.len() < from {
+        return Line::NoForm;
     }
-    if words::same(tag, b"P") {
-        return param_line(names, s);
+    let to = fields::end(s, from);
+    match numbers::number_in(&s[from..to], values::NUMBER) {
+        Field::Value(i) => tagged_line(names, s, i as u16, to + 1),
+        Field::NoValue => Line::NoForm,
     }
-    if words::same(tag, b"E") {
-        return term_line(names, s);
-    }
-    Line::NoForm
 }

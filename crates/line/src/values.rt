@@ -1,8 +1,9 @@
-// The values that stand in the fields of a line, by the kinds of its form.
+// The values that stand in a form's fields, which are those after the line's own number and the row's kind.
 ghost use mathlib.Core.Path.{_≡_};
 ghost use Prim.Native.Nat.{_≤_};
 ghost use lib.ListN.{length};
 ghost use Rattle.line.specs.Names.{Few};
+ghost use Rattle.line.specs.Part.{fieldsFrom};
 ghost use Rattle.line.specs.Form.{valueOf, valuesOf};
 ghost use Rattle.model.specs.Line.{fields};
 use crate::fields;
@@ -11,10 +12,10 @@ use crate::words;
 use model::Field;
 
 // The most fields that a form has.
-const FIELDS: usize = 7;
+const FIELDS: usize = 4;
 
 // The largest number of a row or a parameter, and the largest number of a NUM or an ENC.
-const NUMBER: u32 = 65535;
+pub(crate) const NUMBER: u32 = 65535;
 
 const LITERAL: u32 = 4294967295;
 
@@ -26,7 +27,7 @@ pub struct Values {
     pub literal: u32,
 }
 
-// What stands in a field, by the letter of its kind; a tag's or a row's kind's letter has 0.
+// What stands in a field, by the letter of its kind; `o` is an operation.
 fn value(names: &[u8], kind: u8, s: &[u8]) -> Field
     requires { ⌜ Few (now names) ⌝ }
     ensures { λ r. ⌜ r ≡ valueOf (fields (now (names .entry))) kind (now (s .entry)) ⌝ }
@@ -37,15 +38,14 @@ fn value(names: &[u8], kind: u8, s: &[u8]) -> Field
         b'q' => words::qualifier_in(names, s),
         b'w' => words::word_in(names, s),
         b's' => words::scheme_in(names, s),
-        b'o' => words::operation_in(s),
-        _ => Field::Value(0),
+        _ => words::operation_in(s),
     }
 }
 
-// The values of a line's fields, where there is one letter for the kind of each.
-pub(crate) fn read(names: &[u8], kinds: &[u8], s: &[u8]) -> Values
-    requires { ⌜ Few (now names) × (length (now kinds) ≤ 7) ⌝ }
-    ensures { λ r. ⌜ r ≡ valuesOf (fields (now (names .entry))) (now (kinds .entry)) (fields (now (s .entry))) ⌝ }
+// The values of a line's fields from a place on, where there is one letter for the kind of each.
+pub(crate) fn read(names: &[u8], kinds: &[u8], s: &[u8], start: usize) -> Values
+    requires { ⌜ Few (now names) × (length (now kinds) ≤ 4) ⌝ }
+    ensures { λ r. ⌜ r ≡ valuesOf (fields (now (names .entry))) (now (kinds .entry)) (fieldsFrom (now (s .entry)) start) ⌝ }
 {
     let mut v = Values {
         all: false,
@@ -54,7 +54,7 @@ pub(crate) fn read(names: &[u8], kinds: &[u8], s: &[u8]) -> Values
         literal: 0,
     };
     let mut k: usize = 0;
-    let mut from: usize = 0;
+    let mut from = start;
     while k < kinds.len() {
         if s.len() < from {
             return v;

@@ -9,10 +9,10 @@ use Rattle.line.proofs.values.read.Statement.{statement}
 use Rattle.line.proofs.values.read.Tie as tie
 
 abbrev Inv-loop : tie.InvT-loop
-Inv-loop names kinds s v₀ k₀ from₀ v k from = Reading (fields names) kinds s v k from
+Inv-loop names kinds s start v₀ k₀ from₀ v k from = Reading (fields names) kinds s start v k from
 
 abbrev μ-loop : tie.MeasureT-loop
-μ-loop names kinds s v₀ k₀ from₀ v k from = length kinds - k
+μ-loop names kinds s start v₀ k₀ from₀ v k from = length kinds - k
 
 pub read-spec : {M : Type 1} → statement M
 read-spec =

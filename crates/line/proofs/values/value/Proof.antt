@@ -1,7 +1,7 @@
 -- Each letter has its reader.
 use borrow.Author.Needs.{needs}
 use Rattle.line.specs.Form.{valueOf}
-use Rattle.line.proofs.Reading.{value-known}
+use Rattle.line.proofs.Reading.{value-operation}
 use Rattle.line.proofs.values.value.Statement.{statement}
 use Rattle.line.proofs.values.value.Tie as tie
 
@@ -21,5 +21,4 @@ value-spec =
     (λ c. simp (c .before .match .keys3) (c .qualifier-in .ensures))
     (λ c. simp (c .before .match .keys4) (c .word-in .ensures))
     (λ c. simp (c .before .match .keys5) (c .scheme-in .ensures))
-    (λ c. simp (c .before .match .keys6) (c .operation-in .ensures))
-    (λ c. search (value-known, needs)))
+    (λ c. search (value-operation, needs)))
