@@ -1,20 +1,16 @@
 -- How a line begins: its tag, its own number, and the fields after those.
-use Prim.Native.Nat.{ℕ, suc, _+_, _-_, _≤_, _<_}
+use Prim.Native.Nat.{ℕ, _+_, _-_, _<_}
 use native.Mathlib.Omega.{arith}
-use native.Mathlib.Numerals.{add-one}
 use mathlib.Core.List.{List, [], _∷_}
-use mathlib.Core.Path.{_≡_, refl, sym, ap, _∙_}
+use mathlib.Core.Path.{_≡_, sym, ap, _∙_}
 use lib.ListN.{length, getD, take, drop, length-drop}
 use lib.Seq.{getD-drop, drop-drop}
-use mir.Syntax.{w16}
-use mir.Val.{Fits}
 use Rattle.model.specs.Number.{numberOf}
 use Rattle.model.specs.Line.{fields, field, number}
 use Rattle.model.specs.declared.Field.{Field}
 use Rattle.model.specs.declared.Field.the-variants.{Value, NoValue}
 use Rattle.line.specs.Part.{fieldsFrom, FieldTo, Begun}
 use Rattle.line.proofs.Parting.{from-within, from-past}
-use Rattle.line.proofs.Bounds.{number-at-most}
 
 -- The tag, up to `end`.
 module _ (s : List ℕ) (end : ℕ) (f : FieldTo s 0 end) where
@@ -32,9 +28,6 @@ module _ (s : List ℕ) (end : ℕ) (f : FieldTo s 0 end) where
 
     pub own-not : r ≡ NoValue → number s 1 ≡ NoValue
     own-not none = sym own-read ∙ none
-
-    pub own-fits : (i : ℕ) → r ≡ Value i → Fits w16 i
-    own-fits i is = omega (arith, number-at-most 65535 (take (to - (end + 1)) (drop (end + 1) s)) i (sym e ∙ is))
 
     pub begun : (i : ℕ) → r ≡ Value i → Begun s i 2 (fieldsFrom s (to + 1))
     begun i is =

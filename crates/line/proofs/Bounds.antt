@@ -8,7 +8,7 @@ use lib.Dec.{eqb, leb}
 use lib.ListN.{length}
 use mir.Syntax.{w8, w16}
 use mir.Val.{Fits}
-use borrow.Author.Tests.{leb-true, eqb-true, eq-eqb, ne-eqb}
+use borrow.Author.Tests.{leb-true, eqb-true, ne-eqb}
 use Rattle.scheme.proofs.Every.{and-right}
 use Rattle.model.specs.Lists.{allOf}
 use Rattle.model.specs.Number.{isDigit, valueFrom, noLeadingZero, numberOf}
@@ -101,11 +101,14 @@ floor-cases {P} names s c e left-out word = go (eqb (length (fields s)) 4) (eqb 
 pub floor-below : (names : List (List ℕ)) (s : List ℕ) (c : ℕ) → floor names s ≡ Value c → c < suc (length names)
 floor-below names s c e = floor-cases names s c e (λ four plain. omega arith) (λ five word. word-below names (field s 4) c word)
 
--- So what was read of a field fits where it is stored.
+-- So what was read fits where it is stored.
+pub number-fits : (s : List ℕ) (r : Field) (n : ℕ) → r ≡ numberOf 65535 s → r ≡ Value n → Fits w16 n
+number-fits s r n e v = omega (arith, number-at-most 65535 s n (sym e ∙ v))
+
 module _ (names : List ℕ) (kind : ℕ) (s : List ℕ) (r : Field) (n : ℕ) (e : r ≡ valueOf (fields names) kind s) (v : r ≡ Value n) where
-  pub number-fits : kind ≡ 110 → Fits w16 n
+  pub field-fits : kind ≡ 110 → Fits w16 n
   unfolding valueOf
-  number-fits is = let read : numberOf 65535 s ≡ Value n = simp (eq-eqb kind 110 is) at (sym e ∙ v) in omega (arith, number-at-most 65535 s n read)
+  field-fits is = number-fits s r n (e ∙ simp is) v
 
   pub code-fits : Few names → (kind ≡ 110 → ⊥) → (kind ≡ 108 → ⊥) → Fits w8 n
   unfolding valueOf

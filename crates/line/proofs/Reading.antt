@@ -14,7 +14,7 @@ use Rattle.model.specs.Line.{fields}
 use Rattle.model.specs.declared.Field.{Field}
 use Rattle.model.specs.declared.Field.the-variants.{Value, NoValue}
 use Rattle.line.specs.Part.{fieldsFrom, FieldTo}
-use Rattle.line.specs.Form.{valueOf, noValues, put, complete, onward, valuesFrom, valuesOf}
+use Rattle.line.specs.Form.{mostFields, valueOf, noValues, put, onward, valuesFrom, valuesOf}
 use Rattle.line.specs.declared.values.Values.{Values}
 use Rattle.line.proofs.Parting.{some-field, from-within, from-past}
 
@@ -26,8 +26,8 @@ value-operation names kind s r e n l q w m = simp (ne-eqb kind 110 n, ne-eqb kin
 
 -- The values so far, with those of the fields from `from` on, are the line's.
 pub record Reading (names : List (List ℕ)) (kinds s : List ℕ) (start : ℕ) (v : Values) (k from : ℕ) : Type 0 where
-  pub numbers : length (v .number) ≡ 4
-  pub codes : length (v .code) ≡ 4
+  pub numbers : length (v .number) ≡ mostFields
+  pub codes : length (v .code) ≡ mostFields
   pub incomplete : v .all ≡ false
   pub rest : valuesOf names kinds (fieldsFrom s start) ≡ valuesFrom names v k (drop k kinds) (fieldsFrom s from)
 
@@ -73,7 +73,7 @@ module _ (names : List (List ℕ)) (kinds s : List ℕ) (start : ℕ) (v : Value
         next = r .rest ∙ simp (drop-cons kinds k 0 h, f .parts, sym e ∙ is, add-one)
 
         -- The value is put where its kind says.
-        put-next : (v′ : Values) → put (getD kinds k 0) k n v ≡ v′ → length (v′ .number) ≡ 4 → length (v′ .code) ≡ 4 → v′ .all ≡ false → Reading names kinds s start v′ (k + 1) (to + 1)
+        put-next : (v′ : Values) → put (getD kinds k 0) k n v ≡ v′ → length (v′ .number) ≡ mostFields → length (v′ .code) ≡ mostFields → v′ .all ≡ false → Reading names kinds s start v′ (k + 1) (to + 1)
         put-next v′ p numbers codes incomplete = record { numbers = numbers; codes = codes; incomplete = incomplete; rest = rw p at next }
 
         pub read-number : getD kinds k 0 ≡ 110 → Reading names kinds s start (record { all = v .all; number = set (v .number) k n; code = v .code; literal = v .literal }) (k + 1) (to + 1)

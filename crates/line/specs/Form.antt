@@ -27,9 +27,13 @@ valueOf names kind s =
     (cond (eqb kind 119) (wordOf names s)
     (cond (eqb kind 115) (schemeOf names s) (operationOf s)))))
 
+-- The most fields that a form has.
+abbrev pub mostFields : ℕ
+mostFields = 4
+
 -- Before any field was read.
 abbrev pub noValues : Values
-noValues = record { all = false; number = replicate 4 0; code = replicate 4 0; literal = 0 }
+noValues = record { all = false; number = replicate mostFields 0; code = replicate mostFields 0; literal = 0 }
 
 -- Field k has the value n.
 abbrev pub put : ℕ → ℕ → ℕ → Values → Values

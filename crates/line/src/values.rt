@@ -4,7 +4,7 @@ ghost use Prim.Native.Nat.{_≤_};
 ghost use lib.ListN.{length};
 ghost use Rattle.line.specs.Names.{Few};
 ghost use Rattle.line.specs.Part.{fieldsFrom};
-ghost use Rattle.line.specs.Form.{valueOf, valuesOf};
+ghost use Rattle.line.specs.Form.{mostFields, valueOf, valuesOf};
 ghost use Rattle.model.specs.Line.{fields};
 use crate::fields;
 use crate::numbers;
@@ -44,7 +44,7 @@ fn value(names: &[u8], kind: u8, s: &[u8]) -> Field
 
 // The values of a line's fields from a place on, where there is one letter for the kind of each.
 pub(crate) fn read(names: &[u8], kinds: &[u8], s: &[u8], start: usize) -> Values
-    requires { ⌜ Few (now names) × (length (now kinds) ≤ 4) ⌝ }
+    requires { ⌜ Few (now names) × (length (now kinds) ≤ mostFields) ⌝ }
     ensures { λ r. ⌜ r ≡ valuesOf (fields (now (names .entry))) (now (kinds .entry)) (fieldsFrom (now (s .entry)) start) ⌝ }
 {
     let mut v = Values {

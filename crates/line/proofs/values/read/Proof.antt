@@ -3,7 +3,7 @@ use Prim.Native.Nat.{_-_}
 use borrow.Author.Needs.{needs}
 use lib.ListN.{length}
 use Rattle.model.specs.Line.{fields}
-use Rattle.line.proofs.Bounds.{number-fits, code-fits}
+use Rattle.line.proofs.Bounds.{field-fits, code-fits}
 use Rattle.line.proofs.Reading.{Reading, reads}
 use Rattle.line.proofs.values.read.Statement.{statement}
 use Rattle.line.proofs.values.read.Tie as tie
@@ -32,7 +32,7 @@ read-spec =
     (λ c. search needs)
     (λ c. search (reads, needs))
     (λ c. search needs)
-    (λ c. search (number-fits, needs))
+    (λ c. search (field-fits, needs))
     (λ c. search needs)
     (λ c. search needs)
     (λ c. search needs)
