@@ -22,42 +22,16 @@ use Rattle.scheme.proofs.Every.{and-left, and-both}
 use Rattle.table.proofs.Tests.{or-cases, or-neither, any-at, some-at}
 use Rattle.table.specs.Lists.{lists}
 use Rattle.table.specs.Children.{listed}
+use Rattle.table.specs.Marks.{stores}
 use Rattle.table.specs.declared.Table.{Table}
 use Rattle.table.specs.declared.term.Children.{Children}
 use Rattle.table.specs.declared.term.Children.the-variants.{One, Two}
 use Rattle.table.proofs.Entries.{row-at}
+use Rattle.table.proofs.Marking.{length-stores, stored-other, stored-there}
 use Rattle.closed.specs.Members.{member}
 use Rattle.closed.specs.Reads.{reads}
 use Rattle.closed.specs.Decides.{Tree, DecidesTree}
 use Rattle.closed.proofs.Scope.{Scope, scope-step, scope-last, parent-above}
-
--- One value stored at each of some places.
-abbrev pub stores : List ℕ → ℕ → List ℕ → List ℕ
-stores [] a l = l
-stores (c ∷ cs) a l = stores cs a (set l c a)
-
-length-stores : (cs : List ℕ) (a : ℕ) (l : List ℕ) → length (stores cs a l) ≡ length l
-length-stores [] a l = refl
-length-stores (c ∷ cs) a l = length-stores cs a (set l c a) ∙ length-set l c a
-
-stored-other : (cs : List ℕ) (a k : ℕ) (l : List ℕ) → contains k cs ≡ false → getD (stores cs a l) k 0 ≡ getD l k 0
-stored-other [] a k l h = refl
-stored-other (c ∷ cs) a k l h =
-    let neither = or-neither (eqb k c) (contains k cs) h in
-    stored-other cs a k (set l c a) (neither .1) ∙ getD-set-other l c k a 0 (eqb-false k c (neither .0))
-
-stored-there : (cs : List ℕ) (a k : ℕ) (l : List ℕ) → k < length l → contains k cs ≡ true → getD (stores cs a l) k 0 ≡ a
-stored-there [] a k l within h = absurd (false≢true h)
-stored-there (c ∷ cs) a k l within h = go (contains k cs) refl (stored-there cs a k (set l c a) (rw length-set within))
-  where
-    go : (b : Bool) → contains k cs ≡ b → (contains k cs ≡ true → getD (stores cs a (set l c a)) k 0 ≡ a) → getD (stores cs a (set l c a)) k 0 ≡ a
-    go true later rest = rest later
-    go false none rest =
-        or-cases (eqb k c) (contains k cs) h
-        (λ here.
-        let same : c ≡ k = sym (eqb-true k c here) in
-        stored-other cs a k (set l c a) none ∙ rw same (getD-set-same l k a 0 within))
-        rest
 
 -- A row that the rows from i on, or its being the last, make known.
 pub data Reached (m : Machine) (i k : ℕ) : Type 0 where
@@ -165,15 +139,15 @@ module _ (m : Machine) (w : WellFormed m) where
 
           reached-now : (k : ℕ) → k < length (m .terms) → (getD (stores cs 1 marks) k 0 ≡ 0 → ⊥) → (b : Bool) → contains k cs ≡ b → Reached m r k
           reached-now k h now true there = of-parent {j = r} (omega arith) row-stands (ap (contains k) kids ∙ there)
-          reached-now k h now false none = after-turn k (walked .reached k h (λ e. now (stored-other cs 1 k marks none ∙ e)))
+          reached-now k h now false none = after-turn k (walked .reached k h (λ e. now (stored-other cs 1 k marks 0 none ∙ e)))
 
           marked-now : (k : ℕ) → k < length (m .terms) → Reached m r k → (b : Bool) → contains k cs ≡ b → getD (stores cs 1 marks) k 0 ≡ 1
-          marked-now k h is true there = stored-there cs 1 k marks (omega (arith, w .terms-fit, walked .marks-whole)) there
-          marked-now k h is false none = stored-other cs 1 k marks none ∙ walked .marked k h (before-turn k (ap (contains k) kids ∙ none) is)
+          marked-now k h is true there = stored-there cs 1 k marks 0 (omega (arith, w .terms-fit, walked .marks-whole)) there
+          marked-now k h is false none = stored-other cs 1 k marks 0 none ∙ walked .marked k h (before-turn k (ap (contains k) kids ∙ none) is)
 
           scoped-now : (k : ℕ) → k < length (m .terms) → Reached m r k → (b : Bool) → contains k cs ≡ b → Scope m k (getD (stores cs s scopes) k 0)
-          scoped-now k h is true there = subst (Scope m k) (sym (stored-there cs s k scopes (omega (arith, w .terms-fit, walked .scopes-whole)) there)) (hands k there)
-          scoped-now k h is false none = subst (Scope m k) (sym (stored-other cs s k scopes none)) (walked .scoped k h (before-turn k (ap (contains k) kids ∙ none) is))
+          scoped-now k h is true there = subst (Scope m k) (sym (stored-there cs s k scopes 0 (omega (arith, w .terms-fit, walked .scopes-whole)) there)) (hands k there)
+          scoped-now k h is false none = subst (Scope m k) (sym (stored-other cs s k scopes 0 none)) (walked .scoped k h (before-turn k (ap (contains k) kids ∙ none) is))
 
           child-now : (k : ℕ) → r ≤ k → k + 1 < length (m .terms) → Dec (k ≡ r) → used (m .terms) k ≡ true
           child-now k past h (yes e) = subst (λ (n : ℕ). used (m .terms) n ≡ true) (sym e) (row-used reached-row (omega arith))

@@ -26,7 +26,7 @@ module _ (t : Table) (owned : Owned t) where
   terms-whole = sym (length-map (t .terms) _) ∙ Struct.owed TableType.the-type TableLaws.the-laws t _ owned .1 .1 .0 .1 .0 .1
 
 -- A count past the array's end says all of it.
-counted : {A : Type 0} (l : List A) (count limit n : ℕ) → length l ≡ limit → n ≡ min count limit → (n ≡ length (take count l)) × (n ≤ limit)
+pub counted : {A : Type 0} (l : List A) (count limit n : ℕ) → length l ≡ limit → n ≡ min count limit → (n ≡ length (take count l)) × (n ≤ limit)
 counted l count limit n whole e = (rw (length-take, whole) e, omega arith)
 
 module _ (t : Table) (owned : Owned t) (n : ℕ) where

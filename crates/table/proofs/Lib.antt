@@ -7,4 +7,5 @@ pub mod Scan
 pub mod Stored
 pub mod Codes
 pub mod WellFormed
+pub mod Marking
 pub mod Follows

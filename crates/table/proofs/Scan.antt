@@ -1,30 +1,29 @@
--- A scan of the term rows for one that passes a test. Its invariant: what is asked of all rows is what the rows from i on say.
+-- A scan of the first rows of an array for one that passes a test. Its invariant: what is asked of all of them is what the rows from i on say.
 use Prim.Native.Nat.{ℕ, _+_, _≤_, _<_}
 use native.Mathlib.Numerals.{add-one}
 use mathlib.Core.Bool.{Bool, true, false, _||_}
+use mathlib.Core.List.{List}
 use mathlib.Core.Path.{_≡_, sym, _∙_}
-use lib.ListN.{length, drop, getD, drop-of-length-le}
+use lib.ListN.{length, take, drop, getD, drop-of-length-le}
 use lib.Seq.{drop-cons}
 use Rattle.model.specs.Lists.{anyOf}
 use Rattle.model.specs.Machine.{noTermRow}
 use Rattle.model.specs.declared.TermRow.{TermRow}
-use Rattle.table.specs.Lists.{lists}
-use Rattle.table.specs.declared.Table.{Table}
-use Rattle.table.proofs.Entries.{row-at}
+use Rattle.table.proofs.Entries.{taken}
 
-module _ (test : TermRow → Bool) (t : Table) (i rows : ℕ) (count : rows ≡ length (lists t .terms)) (left : anyOf test (lists t .terms) ≡ anyOf test (drop i (lists t .terms))) where
-  scan-row : i < rows → anyOf test (lists t .terms) ≡ (test (getD (t .terms) i noTermRow) || anyOf test (drop (i + 1) (lists t .terms)))
+module _ (test : TermRow → Bool) (terms : List TermRow) (count i rows : ℕ) (is : rows ≡ length (take count terms)) (left : anyOf test (take count terms) ≡ anyOf test (drop i (take count terms))) where
+  scan-row : i < rows → anyOf test (take count terms) ≡ (test (getD terms i noTermRow) || anyOf test (drop (i + 1) (take count terms)))
   scan-row h =
-      let within : i < length (lists t .terms) = rw count at h in
-      left ∙ rw (add-one, drop-cons (lists t .terms) i noTermRow, row-at t i within)
+      let within : i < length (take count terms) = rw is at h in
+      left ∙ rw (add-one, drop-cons (take count terms) i noTermRow, taken terms count i noTermRow within .1)
 
-  pub scan-found : (found : Bool) → i < rows → found ≡ test (getD (t .terms) i noTermRow) → found ≡ true → true ≡ anyOf test (lists t .terms)
+  pub scan-found : (found : Bool) → i < rows → found ≡ test (getD terms i noTermRow) → found ≡ true → true ≡ anyOf test (take count terms)
   scan-found found h e f = sym (rw (sym e ∙ f) at (scan-row h))
 
-  pub scan-passed : (found : Bool) → i < rows → found ≡ test (getD (t .terms) i noTermRow) → found ≡ false → anyOf test (lists t .terms) ≡ anyOf test (drop (i + 1) (lists t .terms))
+  pub scan-passed : (found : Bool) → i < rows → found ≡ test (getD terms i noTermRow) → found ≡ false → anyOf test (take count terms) ≡ anyOf test (drop (i + 1) (take count terms))
   scan-passed found h e f = rw (sym e ∙ f) at (scan-row h)
 
-  pub scan-over : rows ≤ i → false ≡ anyOf test (lists t .terms)
+  pub scan-over : rows ≤ i → false ≡ anyOf test (take count terms)
   scan-over h =
-      let past : length (lists t .terms) ≤ i = rw count at h in
-      sym (left ∙ rw (drop-of-length-le (lists t .terms) past))
+      let past : length (take count terms) ≤ i = rw is at h in
+      sym (left ∙ rw (drop-of-length-le (take count terms) past))

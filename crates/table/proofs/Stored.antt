@@ -2,7 +2,7 @@
 use Prim.Native.Nat.{ℕ, _+_, _-_, _≤_, _<_}
 use native.Mathlib.Numerals.{add-one}
 use native.Mathlib.Omega.{arith}
-use mathlib.Core.Bool.{Bool}
+use mathlib.Core.Bool.{Bool, not, _&&_}
 use mathlib.Core.List.{List, [], _∷_, _++_}
 use mathlib.Core.Path.{_≡_, refl, sym, _∙_}
 use lib.Dec.{eqb, ltb}
@@ -10,7 +10,8 @@ use lib.ListN.{length, take, set, getD, length-take}
 use lib.Seq.{take-suc-set, take-set-lt, take-take, getD-take}
 use borrow.Author.Tests.{ne-eqb, lt-ltb, le-ltb, eqb-true, ltb-true}
 use Rattle.scheme.specs.Schemes.{words}
-use Rattle.model.specs.Machine.{Machine, noParam, withQualifier, settled, firstFailing, typeRefusal, paramRefusal, termRefusal, entered, redeclared, takenBack}
+use Rattle.model.specs.Lists.{anyOf}
+use Rattle.model.specs.Machine.{Machine, children, binds, used, bound, twice, noParam, withQualifier, settled, firstFailing, typeRefusal, paramRefusal, termRefusal, entered, redeclared, takenBack}
 use Rattle.model.specs.declared.TypeForm.{TypeForm}
 use Rattle.model.specs.declared.TypeRow.{TypeRow}
 use Rattle.model.specs.declared.Param.{Param}
@@ -19,21 +20,21 @@ use Rattle.model.specs.declared.TermRow.{TermRow}
 use Rattle.model.specs.declared.Line.the-variants.{TypeLine, ParamLine, TermLine, NoForm}
 use Rattle.model.proofs.Checks.{passed}
 use Rattle.table.specs.Lists.{lists, change}
+use Rattle.table.specs.Standing.{Free}
 use Rattle.table.specs.declared.Table.{Table}
 use Rattle.table.specs.declared.Answered.{Answered}
-use Rattle.table.proofs.Counts.{Owned, types-whole, params-whole, terms-whole}
 
 -- A table with one array and its count changed, and an accepted call's answer.
-abbrev with-types : Table → List TypeRow → ℕ → Table
+abbrev pub with-types : Table → List TypeRow → ℕ → Table
 with-types t types n = record { types = types; params = t .params; terms = t .terms; typecount = n; paramcount = t .paramcount; termcount = t .termcount; schemes = t .schemes }
 
-abbrev with-params : Table → List Param → ℕ → Table
+abbrev pub with-params : Table → List Param → ℕ → Table
 with-params t params n = record { types = t .types; params = params; terms = t .terms; typecount = t .typecount; paramcount = n; termcount = t .termcount; schemes = t .schemes }
 
-abbrev with-terms : Table → List TermRow → ℕ → Table
+abbrev pub with-terms : Table → List TermRow → ℕ → Table
 with-terms t terms n = record { types = t .types; params = t .params; terms = terms; typecount = t .typecount; paramcount = t .paramcount; termcount = n; schemes = t .schemes }
 
-abbrev accepting : Table → Answered
+abbrev pub accepting : Table → Answered
 accepting t = record { table = t; number = 0 }
 
 -- A refused call leaves the table as it was.
@@ -55,23 +56,23 @@ room own n limit rest e =
     (same, omega (arith, ltb-true n limit (second .0)))
 
 -- The entry that is stored behind those standing is appended.
-appended : {A : Type 0} (l : List A) (count own limit : ℕ) (a : A) → length l ≡ limit → own ≡ length (take count l) → own < limit → take (own + 1) (set l own a) ≡ take count l ++ (a ∷ [])
+pub appended : {A : Type 0} (l : List A) (count own limit : ℕ) (a : A) → length l ≡ limit → own ≡ length (take count l) → own < limit → take (own + 1) (set l own a) ≡ take count l ++ (a ∷ [])
 appended l count own limit a whole e h =
     let same : own ≡ count = omega (arith, simp length-take at e) in
     let within : own < length l = omega arith in
     rw (add-one, take-suc-set l own a within, same)
 
-module _ (t : Table) (owned : Owned t) (own number : ℕ) (holds : number ≡ 0) where
+module _ (t : Table) (own number : ℕ) (holds : number ≡ 0) where
   module _ (form : TypeForm) (is : number ≡ typeRefusal (lists t) own form) where
     pub type-room : (own ≡ length (lists t .types)) × (own < 64)
     unfolding typeRefusal
     type-room = room own _ 64 _ (sym is ∙ holds)
 
-    pub type-stored :
+    pub type-stored : length (t .types) ≡ 64 →
         change (accepting (with-types t (set (t .types) own (record { form = form })) (own + 1))) ≡ entered (lists t) (TypeLine own form)
     unfolding entered lists
-    type-stored =
-        rw (appended (t .types) (t .typecount) own 64 (record { form = form }) (types-whole t owned) (type-room .0) (type-room .1))
+    type-stored whole =
+        rw (appended (t .types) (t .typecount) own 64 (record { form = form }) whole (type-room .0) (type-room .1))
         (accepted _ _ _ (sym is ∙ holds))
 
   module _ (param : Param) (is : number ≡ paramRefusal (lists t) own param) where
@@ -79,11 +80,11 @@ module _ (t : Table) (owned : Owned t) (own number : ℕ) (holds : number ≡ 0)
     unfolding paramRefusal
     param-room = room own _ 64 _ (sym is ∙ holds)
 
-    pub param-stored :
+    pub param-stored : length (t .params) ≡ 64 →
         change (accepting (with-params t (set (t .params) own param) (own + 1))) ≡ entered (lists t) (ParamLine own param)
     unfolding entered lists
-    param-stored =
-        rw (appended (t .params) (t .paramcount) own 64 param (params-whole t owned) (param-room .0) (param-room .1))
+    param-stored whole =
+        rw (appended (t .params) (t .paramcount) own 64 param whole (param-room .0) (param-room .1))
         (accepted _ _ _ (sym is ∙ holds))
 
   module _ (term : Term) (is : number ≡ termRefusal (lists t) own term) where
@@ -91,12 +92,19 @@ module _ (t : Table) (owned : Owned t) (own number : ℕ) (holds : number ≡ 0)
     unfolding termRefusal
     term-room = room own _ 256 _ (sym is ∙ holds)
 
-    pub term-stored :
+    pub term-stored : length (t .terms) ≡ 256 →
         change (accepting (with-terms t (set (t .terms) own (record { term = term })) (own + 1))) ≡ entered (lists t) (TermLine own term)
     unfolding entered lists
-    term-stored =
-        rw (appended (t .terms) (t .termcount) own 256 (record { term = term }) (terms-whole t owned) (term-room .0) (term-room .1))
+    term-stored whole =
+        rw (appended (t .terms) (t .termcount) own 256 (record { term = term }) whole (term-room .0) (term-room .1))
         (accepted _ _ _ (sym is ∙ holds))
+
+-- What a scan of the array's rows finds is what checks 7 and 8 ask.
+pub free-by-rows : (t : Table) (term : Term) (free free′ : Bool) →
+    free ≡ (not (anyOf (used (take (t .termcount) (t .terms))) (children term)) && not (twice (children term))) →
+    free′ ≡ not (anyOf (bound (take (t .termcount) (t .terms))) (binds term)) → Free (lists t) term free free′
+unfolding lists
+free-by-rows t term free free′ seven eight = record { seven = seven; eight = eight }
 
 pub no-form : (t : Table) → change (record { table = t; number = 1 }) ≡ entered (lists t) NoForm
 unfolding entered

@@ -91,15 +91,15 @@ param-passed m p param e =
     let four = passed 4 _ _ (omega arith) (three .1) in
     record { room = ltb-true _ 64 (three .0); declared = ltb-true _ _ (four .0) }
 
-record TermPassed (m : Machine) (i : ℕ) (term : Term) : Type 0 where
-  next : i ≡ length (m .terms)
-  room : length (m .terms) < 256
-  declared : allOf (λ p. ltb p (length (m .params))) (named term) ≡ true
-  below : allOf (λ c. ltb c i) (children term) ≡ true
+pub record TermPassed (m : Machine) (i : ℕ) (term : Term) : Type 0 where
+  pub next : i ≡ length (m .terms)
+  pub room : length (m .terms) < 256
+  pub declared : allOf (λ p. ltb p (length (m .params))) (named term) ≡ true
+  pub below : allOf (λ c. ltb c i) (children term) ≡ true
   free : (not (anyOf (used (m .terms)) (children term)) && not (twice (children term))) ≡ true
   unbound : not (anyOf (bound (m .terms)) (binds term)) ≡ true
 
-term-passed : (m : Machine) (i : ℕ) (term : Term) → termRefusal m i term ≡ 0 → TermPassed m i term
+pub term-passed : (m : Machine) (i : ℕ) (term : Term) → termRefusal m i term ≡ 0 → TermPassed m i term
 unfolding termRefusal
 term-passed m i term e =
     let two = passed 2 _ _ (omega arith) e in

@@ -1,16 +1,15 @@
 // The table of type rows, parameters and term rows, and the calls that change it, by value.
 ghost use mathlib.Core.Path.{_≡_};
 ghost use mathlib.Core.Bool.{not, _&&_};
-ghost use mathlib.Core.List.{[], _∷_};
-ghost use Prim.Native.Nat.{ℕ, _≤_, min};
-ghost use lib.Dec.{eqb, ltb};
-ghost use lib.ListN.{length};
-ghost use Rattle.model.specs.Lists.{anyOf, allOf};
-ghost use Rattle.model.specs.Machine.{freshMachine, children, binds, parts, used, bound, twice, firstFailing, typeRefusal, paramRefusal, termRefusal, entered, added, redeclared, takenBack};
+ghost use Prim.Native.Nat.{_≤_, min};
+ghost use lib.ListN.{length, take};
+ghost use Rattle.model.specs.Lists.{anyOf};
+ghost use Rattle.model.specs.Machine.{freshMachine, children, binds, used, bound, twice, entered, added, redeclared, takenBack};
 ghost use Rattle.scheme.specs.Six.{sixTable};
 ghost use Rattle.schemes.specs.Schemes.{tableIn, Kept};
 ghost use Rattle.model.specs.SchemeFile.{opened};
 ghost use Rattle.table.specs.Lists.{lists, change};
+ghost use Rattle.table.specs.Marks.{Marked};
 ghost use Rattle.table.specs.Sought.{namedBy};
 use model::Line;
 use model::Param;
@@ -20,20 +19,23 @@ use model::TypeForm;
 use model::TypeRow;
 use schemes::Schemes;
 
+mod checks;
+pub mod marks;
 pub mod term;
 
+use checks::param_refusal;
+use checks::term_refusal;
+use checks::type_refusal;
 use term::Children;
 use term::Sought;
-use term::children_below;
 use term::children_of;
 use term::names;
-use term::parameter_declared;
 
 // The entries that stand are the first ones of each array, as many as its count says; they are read by the scheme table.
 pub struct Table {
-    pub types: [TypeRow; 64],
-    pub params: [Param; 64],
-    pub terms: [TermRow; 256],
+    pub types: [TypeRow; Table::TYPES],
+    pub params: [Param; Table::PARAMS],
+    pub terms: [TermRow; Table::TERMS],
     pub typecount: usize,
     pub paramcount: usize,
     pub termcount: usize,
@@ -118,125 +120,46 @@ impl Table {
         filled(self.termcount, Table::TERMS)
     }
 
-    // Whether some row names what is sought.
-    fn some_row(self, sought: Sought) -> bool
-        ensures { λ r. ⌜ r ≡ anyOf (namedBy sought) (lists self .terms) ⌝ }
-    {
-        let rows = self.term_rows();
-        let mut i: usize = 0;
-        while i < rows {
-            let row = self.terms[i];
-            if names(row, sought) {
-                return true;
-            }
-            i += 1;
-        }
-        false
-    }
-
     // Whether some row has the child.
     pub fn is_used(self, child: u16) -> bool
         ensures { λ r. ⌜ r ≡ used (lists self .terms) child ⌝ }
     {
-        self.some_row(Sought::Child(child))
+        let terms = self.terms;
+        some_row(terms, self.termcount, Sought::Child(child))
     }
 
     // Whether some LAM binds the parameter.
     pub fn is_bound(self, p: u16) -> bool
         ensures { λ r. ⌜ r ≡ bound (lists self .terms) p ⌝ }
     {
-        self.some_row(Sought::Binder(p))
+        let terms = self.terms;
+        some_row(terms, self.termcount, Sought::Binder(p))
     }
 
-    // Check 7: whether no child is used already, and no row is named as both children.
-    fn children_free(self, term: Term) -> bool
-        ensures { λ r. ⌜ r ≡ (not (anyOf (used (lists self .terms)) (children term)) && not (twice (children term))) ⌝ }
+    // The number of the first check that refuses a line, or 0, by the marks of the rows that stand.
+    pub fn refusal(
+        self,
+        line: Line,
+        used: &[bool; Table::TERMS],
+        bound: &[bool; Table::PARAMS],
+    ) -> u16
+        ensures { λ r. ⌜ (Marked (lists self .terms) (now (used .entry)) (now (bound .entry)) → r ≡ entered (lists self) line .number) ⌝ }
     {
-        match children_of(term) {
-            Children::Nothing => true,
-            Children::One(only) => !self.is_used(only),
-            Children::Two(first, second) => {
-                if first == second {
-                    return false;
-                }
-                if self.is_used(first) {
-                    return false;
-                }
-                !self.is_used(second)
-            }
-        }
-    }
-
-    // Check 8: whether the parameter of a LAM is unbound.
-    fn binder_free(self, term: Term) -> bool
-        ensures { λ r. ⌜ r ≡ not (anyOf (bound (lists self .terms)) (binds term)) ⌝ }
-    {
-        match term {
-            Term::Lam(p, _) => !self.is_bound(p),
-            Term::App(_, _) => true,
-            Term::Op(_, _, _) => true,
-            Term::Var(_) => true,
-            Term::Num(_) => true,
-            Term::Enc(_, _) => true,
-        }
-    }
-
-    // The number of the first check that refuses a type row, or 0.
-    fn type_refusal(self, own: u16, form: TypeForm) -> u16
-        ensures { λ r. ⌜ r ≡ typeRefusal (lists self) own form ⌝ }
-    {
-        let place = place_refusal(own, self.type_rows(), Table::TYPES);
-        if place != 0 {
-            return place;
-        }
-        if parts_below(own, form) {
-            return 0;
-        }
-        4
-    }
-
-    // The number of the first check that refuses a parameter, or 0.
-    fn param_refusal(self, own: u16, param: Param) -> u16
-        ensures { λ r. ⌜ r ≡ paramRefusal (lists self) own param ⌝ }
-    {
-        let place = place_refusal(own, self.parameters(), Table::PARAMS);
-        if place != 0 {
-            return place;
-        }
-        if (param.typerow as usize) < self.type_rows() {
-            return 0;
-        }
-        4
-    }
-
-    // The number of the first check that refuses a term row, or 0.
-    fn term_refusal(self, own: u16, term: Term) -> u16
-        ensures { λ r. ⌜ r ≡ termRefusal (lists self) own term ⌝ }
-    {
-        let place = place_refusal(own, self.term_rows(), Table::TERMS);
-        if place != 0 {
-            return place;
-        }
-        if !parameter_declared(self.parameters(), term) {
-            return 5;
-        }
-        if !children_below(own, term) {
-            return 6;
-        }
-        if !self.children_free(term) {
-            return 7;
-        }
-        if !self.binder_free(term) {
-            return 8;
-        }
-        0
+        marks::refusal(
+            line,
+            self.type_rows(),
+            self.parameters(),
+            self.term_rows(),
+            used,
+            bound,
+        )
     }
 
     // Stores a type row behind those that stand, unless a check fails.
     fn enter_type(mut self, own: u16, form: TypeForm) -> Answered
         ensures { λ r. ⌜ (change r ≡ entered (lists self) (Line.TypeLine own form)) × (r .table .schemes ≡ self .schemes) ⌝ }
     {
-        let number = self.type_refusal(own, form);
+        let number = type_refusal(own, form, self.type_rows());
         if number != 0 {
             return Answered {
                 table: self,
@@ -256,7 +179,7 @@ impl Table {
     fn enter_param(mut self, own: u16, param: Param) -> Answered
         ensures { λ r. ⌜ (change r ≡ entered (lists self) (Line.ParamLine own param)) × (r .table .schemes ≡ self .schemes) ⌝ }
     {
-        let number = self.param_refusal(own, param);
+        let number = param_refusal(own, param, self.type_rows(), self.parameters());
         if number != 0 {
             return Answered {
                 table: self,
@@ -276,7 +199,16 @@ impl Table {
     fn enter_term(mut self, own: u16, term: Term) -> Answered
         ensures { λ r. ⌜ (change r ≡ entered (lists self) (Line.TermLine own term)) × (r .table .schemes ≡ self .schemes) ⌝ }
     {
-        let number = self.term_refusal(own, term);
+        let terms = self.terms;
+        let count = self.termcount;
+        let number = term_refusal(
+            own,
+            term,
+            self.parameters(),
+            self.term_rows(),
+            children_free(terms, count, term),
+            binder_free(terms, count, term),
+        );
         if number != 0 {
             return Answered {
                 table: self,
@@ -368,31 +300,51 @@ fn filled(count: usize, limit: usize) -> usize
     if count <= limit { count } else { limit }
 }
 
-// Checks 2 and 3: the own number is the next, and the list is not full.
-fn place_refusal(own: u16, count: usize, limit: usize) -> u16
-    ensures { λ r. ⌜ r ≡ firstFailing ((2, eqb own count) ∷ (3, ltb count limit) ∷ []) ⌝ }
+// Whether some of the rows that stand names what is sought.
+fn some_row(terms: [TermRow; Table::TERMS], count: usize, sought: Sought) -> bool
+    ensures { λ r. ⌜ r ≡ anyOf (namedBy sought) (take count terms) ⌝ }
 {
-    if (own as usize) != count {
-        return 2;
+    let rows = filled(count, Table::TERMS);
+    let mut i: usize = 0;
+    while i < rows {
+        let row = terms[i];
+        if names(row, sought) {
+            return true;
+        }
+        i += 1;
     }
-    if limit <= count {
-        return 3;
-    }
-    0
+    false
 }
 
-// Check 4 of a type row: whether the rows that it names are below its own number.
-fn parts_below(own: u16, form: TypeForm) -> bool
-    ensures { λ r. ⌜ r ≡ allOf (λ t. ltb t own) (parts form) ⌝ }
+// Check 7: whether no child is used already, and no row is named as both children.
+fn children_free(terms: [TermRow; Table::TERMS], count: usize, term: Term) -> bool
+    ensures { λ r. ⌜ r ≡ (not (anyOf (used (take count terms)) (children term)) && not (twice (children term))) ⌝ }
 {
-    match form {
-        TypeForm::Int => true,
-        TypeForm::Any => true,
-        TypeForm::Arrow(_, argument, _, result) => {
-            if argument < own {
-                return result < own;
+    match children_of(term) {
+        Children::Nothing => true,
+        Children::One(only) => !some_row(terms, count, Sought::Child(only)),
+        Children::Two(first, second) => {
+            if first == second {
+                return false;
             }
-            false
+            if some_row(terms, count, Sought::Child(first)) {
+                return false;
+            }
+            !some_row(terms, count, Sought::Child(second))
         }
+    }
+}
+
+// Check 8: whether the parameter of a LAM is unbound.
+fn binder_free(terms: [TermRow; Table::TERMS], count: usize, term: Term) -> bool
+    ensures { λ r. ⌜ r ≡ not (anyOf (bound (take count terms)) (binds term)) ⌝ }
+{
+    match term {
+        Term::Lam(p, _) => !some_row(terms, count, Sought::Binder(p)),
+        Term::App(_, _) => true,
+        Term::Op(_, _, _) => true,
+        Term::Var(_) => true,
+        Term::Num(_) => true,
+        Term::Enc(_, _) => true,
     }
 }

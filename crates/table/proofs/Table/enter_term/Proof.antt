@@ -2,30 +2,53 @@
 use mathlib.Core.Path.{refl}
 use borrow.Author.Needs.{needs}
 use Rattle.model.specs.Machine.{entered}
-use Rattle.table.proofs.Stored.{refused, term-room, term-stored}
+use Rattle.table.proofs.Counts.{terms-whole}
+use Rattle.table.proofs.Stored.{free-by-rows, refused, term-room, term-stored}
 use Rattle.table.proofs.Table.enter_term.Statement.{statement}
 use Rattle.table.proofs.Table.enter_term.Tie as tie
+
+parameters-requires : tie.Need-parameters-requires
+parameters-requires c κs = search needs
+
+term-rows-requires : tie.Need-term-rows-requires
+term-rows-requires c κs = search needs
+
+children-free-requires : tie.Need-children-free-requires
+children-free-requires c κs = search needs
+
+binder-free-requires : tie.Need-binder-free-requires
+binder-free-requires c κs = search needs
 
 term-refusal-requires : tie.Need-term-refusal-requires
 term-refusal-requires c κs = search needs
 
 returns : tie.Need-returns
 unfolding entered
-returns c = (refused _ _ _ _ (c .before .term-refusal .ensures) (c .if1 .taken), refl)
+returns c = (refused _ _ _ _ (c .before .term-refusal .ensures _ (c .before .before .before .before .before .parameters .ensures .0) (c .before .before .before .before .term-rows .ensures .0) (free-by-rows _ _ _ _ (c .before .before .before .children-free .ensures) (c .before .before .binder-free .ensures))) (c .if1 .taken), refl)
 
-mul-t11 : tie.Need-mul-t11
-mul-t11 c = search needs
+mul-t9 : tie.Need-mul-t9
+mul-t9 c = search needs
 
 element-set-from-self : tie.Need-element-set-from-self
-element-set-from-self c = term-room (c .before .before .args .t1) (c .before .before .good .0) _ _ (c .if1 .left) _ (c .before .term-refusal .ensures) .1
+element-set-from-self c = term-room (c .before .before .before .before .before .before .before .args .t1) _ _ (c .if1 .left) _ (c .before .term-refusal .ensures _ (c .before .before .before .before .before .parameters .ensures .0) (c .before .before .before .before .term-rows .ensures .0) (free-by-rows _ _ _ _ (c .before .before .before .children-free .ensures) (c .before .before .binder-free .ensures))) .1
 
 add-self : tie.Need-add-self
 add-self c = search needs
 
 returns-2 : tie.Need-returns-2
-returns-2 c = (term-stored (c .before .before .args .t1) (c .before .before .good .0) _ _ (c .if1 .left) _ (c .before .term-refusal .ensures), refl)
+returns-2 c = (term-stored (c .before .before .before .before .before .before .before .args .t1) _ _ (c .if1 .left) _ (c .before .term-refusal .ensures _ (c .before .before .before .before .before .parameters .ensures .0) (c .before .before .before .before .term-rows .ensures .0) (free-by-rows _ _ _ _ (c .before .before .before .children-free .ensures) (c .before .before .binder-free .ensures))) (terms-whole (c .before .before .before .before .before .before .before .args .t1) (c .before .before .before .before .before .before .before .good .0)), refl)
 
 pub enter-term-spec : {M : Type 1} → statement M
 enter-term-spec =
     tie.close
-    (tie.spec term-refusal-requires returns mul-t11 element-set-from-self add-self returns-2)
+    (tie.spec
+    parameters-requires
+    term-rows-requires
+    children-free-requires
+    binder-free-requires
+    term-refusal-requires
+    returns
+    mul-t9
+    element-set-from-self
+    add-self
+    returns-2)

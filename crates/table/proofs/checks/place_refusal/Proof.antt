@@ -1,8 +1,8 @@
 -- Each way returns the number of the first of the two checks that fails, or 0.
 use borrow.Author.Needs.{needs}
 use Rattle.table.proofs.Refusals.{not-next, no-room, placed}
-use Rattle.table.proofs.place_refusal.Statement.{statement}
-use Rattle.table.proofs.place_refusal.Tie as tie
+use Rattle.table.proofs.checks.place_refusal.Statement.{statement}
+use Rattle.table.proofs.checks.place_refusal.Tie as tie
 
 returns : tie.Need-returns
 returns c = search (not-next, needs)

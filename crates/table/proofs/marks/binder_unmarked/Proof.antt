@@ -3,14 +3,14 @@ use mathlib.Core.Path.{ap}
 use borrow.Author.Needs.{needs}
 use Rattle.model.specs.Machine.{binds}
 use Rattle.table.proofs.Tests.{one-untaken}
-use Rattle.table.proofs.Table.binder_free.Statement.{statement}
-use Rattle.table.proofs.Table.binder_free.Tie as tie
+use Rattle.table.proofs.marks.binder_unmarked.Statement.{statement}
+use Rattle.table.proofs.marks.binder_unmarked.Tie as tie
 
 enum-known-term : tie.Need-enum-known-term
 enum-known-term c = search needs
 
-is-bound-requires : tie.Need-is-bound-requires
-is-bound-requires c κs = search needs
+is-marked-requires : tie.Need-is-marked-requires
+is-marked-requires c κs = search needs
 
 enum-told : tie.Need-enum-told
 enum-told c = search needs
@@ -28,7 +28,7 @@ enum-told-5 : tie.Need-enum-told-5
 enum-told-5 c = search needs
 
 returns : tie.Need-returns
-returns c = one-untaken _ _ _ (ap binds (c .before .before .term .given .1)) (c .is-bound .ensures)
+returns c = one-untaken _ _ _ (ap binds (c .before .before .before .term .given .1)) (c .is-marked .ensures)
 
 returns-2 : tie.Need-returns-2
 returns-2 c = search needs
@@ -45,12 +45,12 @@ returns-5 c = search needs
 returns-6 : tie.Need-returns-6
 returns-6 c = search needs
 
-pub binder-free-spec : {M : Type 1} → statement M
-binder-free-spec =
+pub binder-unmarked-spec : {M : Type 1} → statement M
+binder-unmarked-spec =
     tie.close
     (tie.spec
     enum-known-term
-    is-bound-requires
+    is-marked-requires
     enum-told
     enum-told-2
     enum-told-3

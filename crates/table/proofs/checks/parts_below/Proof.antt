@@ -3,8 +3,8 @@ use mathlib.Core.Path.{ap}
 use borrow.Author.Needs.{needs}
 use Rattle.model.specs.Machine.{parts}
 use Rattle.table.proofs.Tests.{below-second, first-not-below}
-use Rattle.table.proofs.parts_below.Statement.{statement}
-use Rattle.table.proofs.parts_below.Tie as tie
+use Rattle.table.proofs.checks.parts_below.Statement.{statement}
+use Rattle.table.proofs.checks.parts_below.Tie as tie
 
 enum-told : tie.Need-enum-told
 enum-told c = search needs
