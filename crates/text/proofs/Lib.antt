@@ -1,4 +1,5 @@
 pub mod Accepted
+pub mod Filling
 pub mod Turns
 pub mod Front
 pub mod Same
