@@ -1,15 +1,15 @@
 -- The walk from the last row down. Its invariant: a row is marked where it is the last or the child of a row passed, and then has the set of
 -- the parameters in scope there; the rows passed are children, and their VARs stand in the bodies of their LAMs.
-use Prim.Native.Nat.{ℕ, zero, suc, _+_, _-_, _≤_, _<_}
+use Prim.Native.Nat.{ℕ, _+_, _-_, _≤_, _<_}
 use native.Mathlib.Decide.{ℕ-discrete}
 use native.Mathlib.Omega.{arith}
 use mathlib.Core.Bool.{Bool, true, false, not, _||_, or-true, false≢true}
-use mathlib.Core.List.{List, [], _∷_}
+use mathlib.Core.List.{List}
 use mathlib.Core.Path.{_≡_, refl, ap, sym, subst, _∙_}
 use lib.Dec.{eqb}
-use lib.ListN.{length, getD, set, replicate, length-set}
+use lib.ListN.{length, getD, set, length-set}
 use lib.Seq.{getD-set-same, getD-set-other}
-use borrow.Author.Tests.{eqb-true, eqb-false, eq-eqb, not-true, not-false}
+use borrow.Author.Tests.{eq-eqb, not-true, not-false}
 use Rattle.scheme.specs.Schemes.{words}
 use Rattle.model.specs.Lists.{allOf, contains}
 use Rattle.model.specs.Machine.{Machine, noTermRow, termAt, children, binds, used}
@@ -19,7 +19,7 @@ use Rattle.model.specs.declared.TermRow.{TermRow}
 use Rattle.model.specs.declared.Term.{Term}
 use Rattle.model.specs.declared.Term.the-variants.{Lam, App, Op, Var, Num, Enc}
 use Rattle.scheme.proofs.Every.{and-left, and-both}
-use Rattle.table.proofs.Tests.{or-cases, or-neither, any-at, some-at}
+use Rattle.table.proofs.Tests.{any-at, some-at}
 use Rattle.table.specs.Lists.{lists}
 use Rattle.table.specs.Children.{listed}
 use Rattle.table.specs.Marks.{stores}
@@ -47,12 +47,6 @@ pub record Walked (m : Machine) (marks scopes : List ℕ) (i : ℕ) : Type 0 whe
   pub scoped : (k : ℕ) → k < length (m .terms) → Reached m i k → Scope m k (getD scopes k 0)
   pub passed-child : (k : ℕ) → i ≤ k → k + 1 < length (m .terms) → used (m .terms) k ≡ true
   pub passed-var : (v p : ℕ) → i ≤ v → v < length (m .terms) → termAt m v ≡ Var p → Inside m p v
-
--- A list of zeros.
-pub zeros : (n k : ℕ) → _≡_ {A = ℕ} (getD (replicate n 0) k 0) 0
-zeros zero k = refl
-zeros (suc n) zero = refl
-zeros (suc n) (suc k) = zeros n k
 
 module _ (m : Machine) (w : WellFormed m) where
   -- A VAR names one of at most 64 parameters.

@@ -9,7 +9,8 @@ use lib.ListN.{replicate}
 use borrow.Author.Needs.{needs}
 use Rattle.table.specs.Children.{listed}
 use Rattle.table.specs.Lists.{lists}
-use Rattle.closed.proofs.Walk.{Walked, zeros, walk-starts, walk-ends, row-within, only-within, first-within, second-within, row-not-reached, var-not-found, row-turned}
+use Rattle.table.proofs.Marking.{repeated}
+use Rattle.closed.proofs.Walk.{Walked, walk-starts, walk-ends, row-within, only-within, first-within, second-within, row-not-reached, var-not-found, row-turned}
 use Rattle.closed.proofs.is_scoped.Statement.{statement}
 use Rattle.closed.proofs.is_scoped.Tie as tie
 
@@ -29,7 +30,7 @@ array-write-reached : tie.Need-array-write-reached Inv-loop μ-loop
 array-write-reached c = search needs
 
 loop-holds : tie.Need-loop-holds Inv-loop μ-loop
-loop-holds c = walk-starts (lists (c .before .args .t1)) (c .before .pre .0) _ (replicate 256 0) (c .term-rows .ensures .0) (omega arith) refl (zeros 256)
+loop-holds c = walk-starts (lists (c .before .args .t1)) (c .before .pre .0) _ (replicate 256 0) (c .term-rows .ensures .0) (omega arith) refl (λ k. repeated 256 k 0)
 
 sub-i : tie.Need-sub-i Inv-loop μ-loop
 sub-i c = search needs
