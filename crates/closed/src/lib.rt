@@ -85,8 +85,8 @@ fn is_scoped(table: Table) -> bool
     requires { ⌜ WellFormed (lists table) × (0 < length (lists table .terms)) ⌝ }
     ensures { λ r. ⌜ DecidesTree (lists table) r ⌝ }
 {
-    let mut reached = [0u8; 256];
-    let mut scope = [0u64; 256];
+    let mut reached = [0u8; Table::TERMS];
+    let mut scope = [0u64; Table::TERMS];
     let mut i = table.term_rows();
     reached[i - 1] = 1;
     while 0 < i {

@@ -83,13 +83,15 @@ pub fn term_refusal(
     ensures { λ r. ⌜ ((m : Machine) → params ≡ length (m .params) → terms ≡ length (m .terms) → Free m term «children_free» «binder_free» → r ≡ termRefusal m own term) ⌝ }
 {
     let place = place_refusal(own, terms, Table::TERMS);
+    let declared = parameter_declared(params, term);
+    let below = children_below(own, term);
     if place != 0 {
         return place;
     }
-    if !parameter_declared(params, term) {
+    if !declared {
         return 5;
     }
-    if !children_below(own, term) {
+    if !below {
         return 6;
     }
     if !children_free {
