@@ -4,7 +4,8 @@ use crate::deep_sharing::deep_sharing;
 use crate::rival::{Failure, Refusal, Slots, Solver};
 use second::generate::{chain, closed_program, text_of_table, Random};
 use second::rows::Entry;
-use second::{line, place, Table};
+use second::text::lines;
+use second::{line, Table};
 
 /// A table with the text that declares it.
 pub struct Sample {
@@ -18,7 +19,7 @@ impl Sample {
     /// The table of a text whose lines are all accepted, without the checks of add.
     pub fn of_text(text: &[u8]) -> Sample {
         let mut table = Table::fresh();
-        for entry in place::lines(text).filter_map(line::read) {
+        for entry in lines(text).filter_map(line::read) {
             match entry {
                 Entry::T(_, row) => table.types.push(row),
                 Entry::P(_, parameter) => table.params.push(parameter),

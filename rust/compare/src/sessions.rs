@@ -5,8 +5,8 @@ use second::generate::{
     accepted_file, any_bytes, call_list_under, damaged_line, what_if_list_under, Call, Random,
     SchemeFile,
 };
-use second::place::lines;
 use second::schemes::SIX_FILE;
+use second::text::lines;
 use second::{SchemeTable, Table};
 
 /// An accepted scheme file as long as one can be: eight lines with names of five letters, and the last line feed.

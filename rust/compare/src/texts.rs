@@ -6,7 +6,7 @@ use second::generate::{
     any_bytes, opened, program_with_floors_under, text_in_any_case, text_of_table, Damage, Opening,
     Program, Random,
 };
-use second::place::lines;
+use second::text::lines;
 use second::{SchemeTable, Table};
 
 /// What a text is.

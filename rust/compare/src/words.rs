@@ -3,7 +3,7 @@
 use crate::well_formed::ALL;
 use second::counts::Counts;
 use second::generate::LetterCase;
-use second::place::lines;
+use second::text::lines;
 use second::word::capitals;
 
 /// A word in a line: the form's place in the list of all, the place of the field, the word in capitals, its case.

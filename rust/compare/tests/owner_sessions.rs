@@ -10,9 +10,9 @@ use second::generate::{
     accepted_file_of, LineFault, Malformation, OrderFaults, PlainByBounds, Random, SchemeFile,
     SchemeProperty,
 };
-use second::place::lines;
 use second::schemes::SIX_FILE;
 use second::session::{answer, session};
+use second::text::lines;
 use second::{SchemeTable, Table};
 
 /// How many generated scripts are compared.

@@ -10,8 +10,8 @@ use compare::words::WordCounts;
 use second::counts::Counts;
 use second::examples::{bytes, files};
 use second::generate::{deep, text_of_lines, LetterCase, NumberCounts, Place, Random};
-use second::place::lines;
 use second::session::{answer, session, Command};
+use second::text::lines;
 use second::to_try;
 use second::{SchemeTable, Table};
 

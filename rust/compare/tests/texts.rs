@@ -12,9 +12,10 @@ use second::generate::{
     LetterCase, NumberCounts, Partner, Place, Random,
 };
 use second::operation::Operation;
-use second::place::{lines, number_of};
+use second::place::number_of;
 use second::report::LONGEST_REPORT;
 use second::rows::TypeRow;
+use second::text::lines;
 use second::to_try;
 use second::{SchemeTable, Table};
 

@@ -1,7 +1,9 @@
 //! The program `place` and the loader's C entry, each on a whole text.
 
+use crate::inference::Answer;
 use crate::report::LONGEST_REPORT;
-use crate::table::{Answer, Table};
+use crate::table::Table;
+use crate::text::lines;
 
 /// What `place` prints when its standard input is this text.
 pub fn place(text: &[u8]) -> Vec<u8> {
@@ -90,10 +92,4 @@ fn filled(mut table: Table, text: &[u8]) -> Result<Table, (u32, u32)> {
         }
     }
     Ok(table)
-}
-
-/// The lines of a text; what follows the last line feed counts if it is not empty.
-pub fn lines(text: &[u8]) -> impl Iterator<Item = &[u8]> {
-    let with_line_feeds = text.split_inclusive(|&byte| byte == b'\n');
-    with_line_feeds.map(|line| line.strip_suffix(b"\n").unwrap_or(line))
 }

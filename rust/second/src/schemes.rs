@@ -3,8 +3,8 @@
 //! The built-in six are the table of one such file.
 
 use crate::operation::Operation;
-use crate::place::lines;
 use crate::qualifier::NAMED_VARIABLES;
+use crate::text::lines;
 use crate::word::capitals;
 use std::ops::RangeInclusive;
 use std::sync::LazyLock;

@@ -1,8 +1,9 @@
 //! A session: a script of commands, one a line, each answered at once.
 
 use crate::line;
-use crate::place::{inferred, lines};
+use crate::place::inferred;
 use crate::table::Table;
+use crate::text::lines;
 
 /// What a line of a script asks for.
 #[derive(Clone, Copy, Debug, PartialEq, Eq)]

@@ -12,10 +12,11 @@ use second::generate::{
 };
 use second::line::read;
 use second::operation::Operation;
-use second::place::{lines, number_of, returned_for};
+use second::place::{number_of, returned_for};
 use second::qualifier::{at_or_below, Qualifier};
 use second::rows::{Entry, TypeRow};
 use second::schemes::{Code, PLAIN};
+use second::text::lines;
 use second::typing::{judge, Shape};
 use second::{entry, place, Answer, SchemeTable, Table};
 

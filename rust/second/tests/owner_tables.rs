@@ -11,9 +11,10 @@ use second::generate::{
     Program, Random, SchemeProperty,
 };
 use second::line::read_under;
-use second::place::{inferred, lines, number_of};
+use second::place::{inferred, number_of};
 use second::rows::{Parameter, QualifiedRow, Term, TypeRow};
 use second::schemes::Code;
+use second::text::lines;
 use second::{entry, entry_under, Answer, SchemeTable, Table};
 
 /// The answers to closed programs: accepted, or the number of a refusal.

@@ -5,8 +5,8 @@ use second::generate::{
     accepted_file, accepted_file_of, any_bytes, Damage, LineFault, Malformation, OrderFaults,
     Random, SchemeFile, SchemeProperty, Support,
 };
-use second::place::lines;
 use second::schemes::SIX_FILE;
+use second::text::lines;
 use second::{entry_under, SchemeTable, Table};
 use std::collections::BTreeSet;
 
