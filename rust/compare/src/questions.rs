@@ -141,7 +141,10 @@ impl Tally {
         let time = start.elapsed();
         assert_eq!(returned, number, "for {about}, {question}");
         assert_same(&found, &expected, || format!("{about}, {question}"));
-        self.slowest.take(question, inner(&mut found), about, time);
+        let again = || {
+            question.ask(inner(&mut found));
+        };
+        self.slowest.take(time, again, || format!("{about}, {} bytes", question.text.len()));
         self.rooms.add(room);
         self.answers.add(number_of(returned));
         self.count_place(returned);

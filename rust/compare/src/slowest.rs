@@ -1,6 +1,5 @@
 //! The slowest of many calls of the C entries for texts.
 
-use crate::questions::Question;
 use std::io::Write;
 use std::time::{Duration, Instant};
 
@@ -19,22 +18,22 @@ pub struct Slowest {
 }
 
 impl Slowest {
-    /// Takes a call into account that was made for this question and buffer and took so long at first.
+    /// Takes a call into account that took so long at first, with what it was made for.
     ///
     /// Only a call that may be the slowest one is repeated.
-    pub fn take(&mut self, question: Question, buffer: &mut [u8], about: &str, first: Duration) {
+    pub fn take(&mut self, first: Duration, mut call: impl FnMut(), about: impl Fn() -> String) {
         if first <= self.time {
             return;
         }
         let repeated = (0..REPEATS).map(|_| {
             let start = Instant::now();
-            question.ask(buffer);
+            call();
             start.elapsed()
         });
         let shortest = repeated.fold(first, Duration::min);
         if shortest > self.time {
             self.time = shortest;
-            self.about = format!("{about}, {} bytes", question.text.len());
+            self.about = about();
         }
     }
 
