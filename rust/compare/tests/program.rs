@@ -3,10 +3,10 @@
 use compare::pieces::{pieces, printed, WHOLE};
 use compare::programs::program;
 use compare::texts::{large_texts, random_text, Kind};
+use second::counts::Counts;
 use second::generate::{deep, text_of_lines, Random};
 use second::place;
 use second::to_try;
-use std::collections::BTreeMap;
 
 /// How many generated texts are compared.
 const TEXTS: usize = 600;
@@ -54,26 +54,22 @@ fn an_empty_input_is_not_closed_and_an_empty_line_is_refused() {
 #[test]
 fn texts_of_each_kind_are_printed_alike() {
     let mut random = Random::seeded(1);
-    let (mut kinds, mut starts) = (BTreeMap::new(), BTreeMap::new());
+    let (mut kinds, mut starts) = (Counts::default(), Counts::default());
     for _ in 0..TEXTS {
         let (kind, text) = random_text(&mut random);
         let piece = if random.one_in(4) { random.between(1, 100) } else { WHOLE };
         let expected = place(&text);
         let about = format!("{kind:?}, {}", text.escape_ascii());
         assert_prints(&about, &text, piece, &expected);
-        *kinds.entry(kind).or_insert(0) += 1;
+        kinds.add(kind);
         let start = expected.split(|&byte| byte == b',').take(2).collect::<Vec<_>>().join(&b',');
         let start = if start.starts_with(b"OK") { b"OK".to_vec() } else { start };
-        *starts.entry(String::from_utf8(start).unwrap()).or_insert(0) += 1;
+        starts.add(String::from_utf8(start).unwrap());
     }
     println!("{kinds:?}\n{starts:?}");
-    for kind in Kind::all() {
-        assert!(kinds.contains_key(&kind), "{kind:?} did not occur");
-    }
-    for start in STARTS {
-        assert!(starts.contains_key(start), "{start} was not printed: {starts:?}");
-    }
-    assert!(starts["OK"] >= TEXTS / 10, "{starts:?}");
+    kinds.assert_each(Kind::all(), 1);
+    starts.assert_each(STARTS.map(str::to_string), 1);
+    starts.assert_each(["OK".to_string()], TEXTS / 10);
 }
 
 #[test]
