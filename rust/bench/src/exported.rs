@@ -1,4 +1,4 @@
-//! The functions that the static library exports for measuring, each with a safe function of the same name.
+//! The functions of the static library that are measured, each with a safe function of the same name.
 
 /// The functions as the library declares them; a slice passes as its pointer and its length.
 mod raw {
@@ -18,6 +18,13 @@ mod raw {
             report: *mut u8,
             report_length: usize,
         ) -> u32;
+
+        pub fn placement_report(
+            text: *const u8,
+            text_length: usize,
+            report: *mut u8,
+            report_length: usize,
+        ) -> u32;
     }
 }
 
@@ -33,4 +40,11 @@ pub fn infer_repeatedly(text: &[u8], times: u32, report: &mut [u8]) -> u32 {
     let (buffer, length) = (report.as_mut_ptr(), report.len());
     // SAFETY: both slices are valid for their lengths during the call, and only `report` is written.
     unsafe { raw::infer_repeatedly(text.as_ptr(), text.len(), times, buffer, length) }
+}
+
+/// The loader's C entry: a text in, a report or a refusal out.
+pub fn placement_report(text: &[u8], report: &mut [u8]) -> u32 {
+    let (buffer, length) = (report.as_mut_ptr(), report.len());
+    // SAFETY: both slices are valid for their lengths during the call, and only `report` is written.
+    unsafe { raw::placement_report(text.as_ptr(), text.len(), buffer, length) }
 }

@@ -6,7 +6,7 @@
 
 use bench::answers;
 use bench::measure::{Sides, Times, Work};
-use bench::rival::{Slots, Solver};
+use bench::rival::Rival;
 use bench::sets::{self, Sample};
 use second::generate::Random;
 use std::path::Path;
@@ -22,8 +22,15 @@ const WRITTEN: usize = 10;
 
 const SEED: u64 = 1;
 
+/// What is measured on all sets, with the titles.
+const WORKS: [(Work, &str); 3] = [
+    (Work::Solve, "solver alone"),
+    (Work::Infer, "whole infer call"),
+    (Work::Report, "whole entry"),
+];
+
 const USAGE: &str = "usage: bench | bench write FOLDER | bench once SIDE WORK FILE TIMES
-SIDE is proved or rust, WORK is solve or infer";
+SIDE is proved or rust, WORK is solve, infer or report";
 
 fn main() -> ExitCode {
     let arguments: Vec<String> = env::args().skip(1).collect();
@@ -44,13 +51,14 @@ fn main() -> ExitCode {
     }
 }
 
-/// The three sets with their names.
+/// All sets with their names.
 fn all_sets() -> Vec<(String, Vec<Sample>)> {
     let random = &mut Random::seeded(SEED);
     vec![
         ("A accepted".to_string(), sets::accepted(random, COUNT, 256)),
         ("B refused".to_string(), sets::refused(random, COUNT)),
         ("C deep sharing".to_string(), sets::shared(random, COUNT)),
+        ("D full".to_string(), sets::full(random, COUNT)),
     ]
 }
 
@@ -65,7 +73,7 @@ fn print_times() -> bool {
     let sized: Vec<_> = [32, 64, 128, 256].map(sized_set).into();
     let differences: usize = sets.iter().chain(&sized).map(|(name, set)| compare(name, set)).sum();
     let mut sides = Sides::default();
-    for (work, title) in [(Work::Solve, "solver alone"), (Work::Infer, "whole infer call")] {
+    for (work, title) in WORKS {
         print_title(title, "us/table");
         for (name, set) in &sets {
             print_line(name, &sides.times(work, set), 1.0);
@@ -93,13 +101,16 @@ fn print_line(name: &str, times: &Times, scale: f64) {
 
 /// Compares every answer with the second solver's; prints and gives the number of differences.
 fn compare(name: &str, set: &[Sample]) -> usize {
-    let (mut solver, mut slots) = (Solver::default(), Slots::default());
+    let mut rival = Rival::default();
     let (mut accepted, mut row_sum, mut differences) = (0, 0, 0);
     for sample in set {
-        let expected = answers::second(sample);
-        let agree = answers::rival(&mut solver, &mut slots, sample) == expected
-            && answers::proved_solve(sample, 1) == expected
-            && answers::proved_infer(sample, 1) == expected;
+        let text = &sample.text;
+        let expected = answers::second(text);
+        let agree = answers::rival_infer(&mut rival, sample) == expected
+            && answers::rival_report(&mut rival, text) == expected
+            && answers::proved_solve(text, 1) == expected
+            && answers::proved_infer(text, 1) == expected
+            && answers::proved_report(text) == expected;
         differences += usize::from(!agree);
         match expected.0 {
             100_000.. => accepted += 1,
@@ -113,7 +124,7 @@ fn compare(name: &str, set: &[Sample]) -> usize {
     differences
 }
 
-/// Writes some tables of each set to a file A, B or C; an empty line follows each table.
+/// Writes some tables of each set to a file A, B, C or D; an empty line follows each table.
 fn write(folder: &Path) -> io::Result<()> {
     for (name, set) in all_sets() {
         let texts = set.iter().step_by(WRITTEN).map(|sample| sample.text.as_slice());
@@ -129,6 +140,7 @@ fn once(side: &str, work: &str, file: &str, times: &str) -> Option<bool> {
     let work = match work {
         "solve" => Work::Solve,
         "infer" => Work::Infer,
+        "report" => Work::Report,
         _ => return None,
     };
     let Ok(texts) = fs::read_to_string(file) else {

@@ -1,14 +1,11 @@
 //! Times of the proved library and of the rival on the same tables.
 
-use crate::rival::{self, Slots, Solver};
+use crate::exported::{infer_repeatedly, placement_report, solve_repeatedly};
+use crate::rival::Rival;
 use crate::sets::Sample;
-use crate::{infer_repeatedly, solve_repeatedly};
 use second::report::LONGEST_REPORT;
 use std::hint::black_box;
 use std::time::{Duration, Instant};
-
-/// How often a table is solved in one measured call, so that loading its text does not drown the solving.
-const TIMES: u32 = 100;
 
 /// How often each table is measured; the shortest time counts, as other work can only lengthen it.
 const ROUNDS: usize = 5;
@@ -20,6 +17,20 @@ pub enum Work {
     Solve,
     /// The whole infer call.
     Infer,
+    /// The whole entry: a text in, a report or a refusal out.
+    Report,
+}
+
+impl Work {
+    /// How often the work is done in one measured call.
+    ///
+    /// The proved library loads the text for a solve or an infer call too, which must not drown them.
+    fn times(self) -> u32 {
+        match self {
+            Work::Solve | Work::Infer => 100,
+            Work::Report => 10,
+        }
+    }
 }
 
 /// The mean times for one table.
@@ -39,47 +50,57 @@ impl Times {
 
 /// Both sides with their storage.
 pub struct Sides {
-    solver: Solver,
-    slots: Slots,
+    rival: Rival,
+    /// Nobody clears it between calls.
     buffer: Vec<u8>,
 }
 
 impl Default for Sides {
     fn default() -> Sides {
-        let buffer = vec![0; LONGEST_REPORT];
-        Sides { solver: Solver::default(), slots: Slots::default(), buffer }
+        Sides { rival: Rival::default(), buffer: vec![0; LONGEST_REPORT] }
     }
 }
 
 impl Sides {
-    /// Loads a text, lets the proved library do the work so many times and answer once.
+    /// Lets the proved library do the work so many times; but for the whole entry it loads the text before and answers once.
     pub fn proved(&mut self, work: Work, sample: &Sample, times: u32) {
+        let (text, buffer) = (&sample.text, &mut self.buffer);
         match work {
-            Work::Solve => solve_repeatedly(&sample.text, times, &mut self.buffer),
-            Work::Infer => infer_repeatedly(&sample.text, times, &mut self.buffer),
-        };
+            Work::Solve => {
+                solve_repeatedly(text, times, buffer);
+            }
+            Work::Infer => {
+                infer_repeatedly(text, times, buffer);
+            }
+            Work::Report => (0..times).for_each(|_| {
+                black_box(placement_report(black_box(text), buffer));
+            }),
+        }
     }
 
     /// Lets the rival do the work so many times.
     pub fn rival(&mut self, work: Work, sample: &Sample, times: u32) {
+        let Sides { rival, buffer } = self;
         for _ in 0..times {
-            let table = black_box(&sample.table);
+            let Sample { text, table } = black_box(sample);
             match work {
                 Work::Solve => {
-                    let answer = self.solver.solve(table, &mut self.slots);
-                    black_box(answer.is_ok());
+                    black_box(rival.solve(table).is_ok());
                 }
                 Work::Infer => {
-                    let Sides { solver, slots, buffer } = self;
-                    black_box(rival::infer(solver, slots, table, buffer).number);
+                    black_box(rival.infer(table, buffer).number);
+                }
+                Work::Report => {
+                    black_box(rival.report(text, buffer));
                 }
             }
-            black_box(&self.slots);
+            black_box(&*rival);
         }
     }
 
     /// The mean times for one table of a set.
     pub fn times(&mut self, work: Work, set: &[Sample]) -> Times {
+        let times = work.times();
         // What loading takes, loading with the work, and the rival's work.
         let mut shortest = vec![[Duration::MAX; 3]; set.len()];
         for round in 0..ROUNDS {
@@ -91,8 +112,8 @@ impl Sides {
                     let start = Instant::now();
                     match part {
                         0 => self.proved(work, sample, 0),
-                        1 => self.proved(work, sample, TIMES),
-                        _ => self.rival(work, sample, TIMES),
+                        1 => self.proved(work, sample, times),
+                        _ => self.rival(work, sample, times),
                     }
                     best[part] = best[part].min(start.elapsed());
                 }
@@ -100,7 +121,7 @@ impl Sides {
         }
         let total = |part: fn(&[Duration; 3]) -> Duration| {
             let sum: Duration = shortest.iter().map(part).sum();
-            sum / TIMES / set.len() as u32
+            sum / times / set.len() as u32
         };
         Times { proved: total(|t| t[1].saturating_sub(t[0])), rival: total(|t| t[2]) }
     }

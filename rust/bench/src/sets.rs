@@ -1,7 +1,8 @@
 //! The tables that are measured: random ones from a fixed seed.
 
 use crate::deep_sharing::deep_sharing;
-use crate::rival::{Failure, Refusal, Slots, Solver};
+use crate::full::{full_program, FULL_ROWS};
+use crate::rival::{Failure, Refusal, Rival};
 use second::generate::{chain, closed_program, text_of_table, Random};
 use second::rows::Entry;
 use second::text::lines;
@@ -28,27 +29,43 @@ impl Sample {
         }
         Sample { text: text.to_vec(), table }
     }
+
+    /// A table with its text.
+    fn of_table(table: Table) -> Sample {
+        Sample { text: text_of_table(&table), table }
+    }
 }
 
 /// So many accepted programs of exactly so many rows.
 pub fn accepted(random: &mut Random, count: usize, rows: usize) -> Vec<Sample> {
-    let mut judge = Judge::default();
-    let programs = std::iter::repeat_with(|| any_program(random, rows));
-    programs.filter(|s| s.table.terms.len() == rows && judge.cause(s) == 0).take(count).collect()
+    accepted_of(count, rows, || any_program(random, rows))
+}
+
+/// So many accepted programs with as many types, parameters and rows as a table can hold.
+pub fn full(random: &mut Random, count: usize) -> Vec<Sample> {
+    accepted_of(count, FULL_ROWS, || full_program(random))
+}
+
+/// So many of the programs that are made, accepted and of exactly so many rows.
+fn accepted_of(count: usize, rows: usize, make: impl FnMut() -> Table) -> Vec<Sample> {
+    let mut rival = Rival::default();
+    let tables = std::iter::repeat_with(make);
+    let wanted = tables.filter(|it| it.terms.len() == rows && cause(&mut rival, it) == 0);
+    wanted.take(count).map(Sample::of_table).collect()
 }
 
 /// So many refused programs of 256 rows; the four causes have equal parts.
 pub fn refused(random: &mut Random, count: usize) -> Vec<Sample> {
-    let mut judge = Judge::default();
+    let mut rival = Rival::default();
     let mut found = [0; CAUSES];
     let mut programs = std::iter::repeat_with(|| match random.one_in(4) {
         true => Sample::of_text(&chain(random)),
-        false => any_program(random, Table::TERM_LIMIT),
+        false => Sample::of_table(any_program(random, Table::TERM_LIMIT)),
     });
     let mut samples = vec![];
     while samples.len() < count {
         let Some(sample) = programs.next() else { break };
-        let cause = judge.cause(&sample);
+        let cause = cause(&mut rival, &sample.table);
         let wanted = cause != 0 && found[cause] < count.div_ceil(CAUSES - 1);
         if wanted && sample.table.terms.len() == Table::TERM_LIMIT {
             found[cause] += 1;
@@ -64,29 +81,20 @@ pub fn shared(random: &mut Random, count: usize) -> Vec<Sample> {
 }
 
 /// A random closed program with its redeclarations made.
-fn any_program(random: &mut Random, rows: usize) -> Sample {
-    let table = closed_program(random, rows).table();
-    Sample { text: text_of_table(&table), table }
+fn any_program(random: &mut Random, rows: usize) -> Table {
+    closed_program(random, rows).table()
 }
 
 /// Accepted, 21 by a clash, 21 by a cycle, 22, 23.
 const CAUSES: usize = 5;
 
 /// Sorts programs by what the rival says; the measure compares all its answers with others.
-#[derive(Default)]
-struct Judge {
-    solver: Solver,
-    slots: Slots,
-}
-
-impl Judge {
-    fn cause(&mut self, sample: &Sample) -> usize {
-        match self.solver.solve(&sample.table, &mut self.slots) {
-            Ok(()) => 0,
-            Err(Refusal::Types(Failure::Clash, _)) => 1,
-            Err(Refusal::Types(Failure::Cycle, _)) => 2,
-            Err(Refusal::Apart(_)) => 3,
-            Err(Refusal::Broken(_)) => 4,
-        }
+fn cause(rival: &mut Rival, table: &Table) -> usize {
+    match rival.solve(table) {
+        Ok(()) => 0,
+        Err(Refusal::Types(Failure::Clash, _)) => 1,
+        Err(Refusal::Types(Failure::Cycle, _)) => 2,
+        Err(Refusal::Apart(_)) => 3,
+        Err(Refusal::Broken(_)) => 4,
     }
 }

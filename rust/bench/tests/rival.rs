@@ -1,23 +1,22 @@
-//! The rival answers as the second solver does, so that the measure compares with a right solver.
+//! The rival's solver answers as the second one does, so that the measure compares with a right solver.
 
 use bench::answers;
-use bench::rival::{Slots, Solver, MEET};
+use bench::rival::{Rival, MEET};
 use bench::sets::{self, Sample};
 use second::generate::{
     chain, deep, doubling, opened, program_with_floors, text_of_lines, text_of_table,
     text_with_floors, Floors, NumberCounts, Opening, Place, Random,
 };
 use second::qualifier::{meet, Qualifier};
-use second::{to_try, SchemeTable};
+use second::SchemeTable;
 
 /// Compares the answers on these texts; gives how often each number was answered.
 fn compare(texts: impl Iterator<Item = Vec<u8>>) -> [usize; 101] {
-    let (mut solver, mut slots) = (Solver::default(), Slots::default());
+    let mut rival = Rival::default();
     let mut numbers = [0; 101];
     for text in texts {
-        let sample = Sample::of_text(&text);
-        let expected = answers::second(&sample);
-        let found = answers::rival(&mut solver, &mut slots, &sample);
+        let expected = answers::second(&text);
+        let found = answers::rival_infer(&mut rival, &Sample::of_text(&text));
         assert!(found == expected, "{} {}: {}", found.0, expected.0, text.escape_ascii());
         numbers[(expected.0 / 1_000).min(100) as usize] += 1;
     }
@@ -46,20 +45,6 @@ fn closed_programs() {
     let places = operands.chain([Place::IgnoredArgument, Place::Argument, Place::Result]);
     literals.places.assert_each(places.chain([Place::Body]), 300);
     literals.words.assert_each(SchemeTable::six().words(), 200);
-}
-
-#[test]
-fn programs_to_try() {
-    let (mut solver, mut slots) = (Solver::default(), Slots::default());
-    for program in to_try::all() {
-        // The rival has no reader of lines, so it is not asked about refused ones.
-        if !program.prints.starts_with(b"X,") {
-            let sample = Sample::of_text(&program.text);
-            let found = answers::rival(&mut solver, &mut slots, &sample);
-            assert_eq!(found.0, program.returns, "for {}", program.about);
-            assert!(found.1.starts_with(program.report().unwrap_or(b"")), "for {}", program.about);
-        }
-    }
 }
 
 #[test]
@@ -113,25 +98,27 @@ fn one_row_breaks_several_rules() {
     for (expected, given, answer) in cases {
         let text = two_arrows(expected, given);
         assert_eq!(compare([text.clone()].into_iter())[answer / 1_000], 1);
-        let sample = Sample::of_text(&text);
-        assert_eq!(answers::second(&sample).0 as usize, answer);
-        assert_eq!(answers::proved_infer(&sample, 1).0 as usize, answer);
+        assert_eq!(answers::second(&text).0 as usize, answer);
+        assert_eq!(answers::proved_infer(&text, 1).0 as usize, answer);
     }
 }
 
 #[test]
 fn the_sets_are_what_they_are_called() {
     let mut random = Random::seeded(24);
-    let texts = |set: Vec<Sample>| {
-        assert!(set.iter().all(|sample| sample.table.terms.len() == 256));
+    let texts = |set: Vec<Sample>, rows: usize| {
+        assert!(set.iter().all(|sample| sample.table.terms.len() == rows));
         // Times stay comparable with those from before there were floors.
         assert!(set.iter().all(|sample| Floors::of(&sample.table) == Floors::Plain));
         set.into_iter().map(|sample| sample.text)
     };
-    assert_eq!(compare(texts(sets::accepted(&mut random, 20, 256)))[100], 20);
-    let refused = compare(texts(sets::refused(&mut random, 40)));
+    assert_eq!(compare(texts(sets::accepted(&mut random, 20, 256), 256))[100], 20);
+    let refused = compare(texts(sets::refused(&mut random, 40), 256));
     assert_eq!((refused[21], refused[22], refused[23]), (20, 10, 10));
-    assert!(compare(texts(sets::shared(&mut random, 40)))[100] > 20);
+    assert!(compare(texts(sets::shared(&mut random, 40), 256))[100] > 20);
+    let full = sets::full(&mut random, 20);
+    assert!(full.iter().all(|it| (it.table.types.len(), it.table.params.len()) == (64, 64)));
+    assert_eq!(compare(texts(full, 255))[100], 20);
 }
 
 #[test]
