@@ -72,7 +72,15 @@ loop-less : tie.Need-loop-less Inv-loop μ-loop
 loop-less c = search needs
 
 loop-again : tie.Need-loop-again Inv-loop μ-loop
-loop-again c = let at = c .before .before .before .before .before .before .before .before .before in row-turned (at .before .before .args .t1) (at .before .before .pre .0) _ _ _ (at .loop .inv) (c .before .before .before .before .before .before .before .before .loop-test .taken) (c .before .before .before .before .before .before .before .if1 .left) _ (c .before .before .before .before .before .reads-within .ensures) (c .before .before .before .before .if2 .left) _ (c .before .before .before .with-binder .ensures) (c .before .before .children-of .result) (c .before .before .children-of .ensures) [] (ap listed (c .enum-told .given .1))
+loop-again c =
+    let at-with-binder = c .before .before .before in
+    let at-if2 = at-with-binder .before in
+    let at-reads-within = at-if2 .before in
+    let at-if1 = at-reads-within .before .before in
+    let at-test = at-if1 .before in
+    let at = at-test .before in
+    row-turned (at .before .before .args .t1) (at .before .before .pre .0) _ _ _ (at .loop .inv) (at-test .loop-test .taken) (at-if1 .if1 .left) _ (at-reads-within .reads-within .ensures)
+    (at-if2 .if2 .left) _ (at-with-binder .with-binder .ensures) (c .before .before .children-of .result) (c .before .before .children-of .ensures) [] (ap listed (c .enum-told .given .1))
 
 enum-known-only : tie.Need-enum-known-only Inv-loop μ-loop
 enum-known-only c = search needs
@@ -81,22 +89,45 @@ cast-reached : tie.Need-cast-reached Inv-loop μ-loop
 cast-reached c = search needs
 
 array-write-reached-2 : tie.Need-array-write-reached-2 Inv-loop μ-loop
-array-write-reached-2 c = let at = c .before .before .before .before .before .before .before .before .before .before in only-within (at .before .before .args .t1) (at .before .before .pre .0) _ _ _ (at .loop .inv) (c .before .before .before .before .before .before .before .before .before .loop-test .taken) (c .before .before .before .children-of .result) (c .before .before .before .children-of .ensures) _ (c .before .only .given .1)
+array-write-reached-2 c =
+    let at-children-of = c .before .before .before in
+    let at-test = at-children-of .before .before .before .before .before .before in
+    let at = at-test .before in
+    only-within (at .before .before .args .t1) (at .before .before .pre .0) _ _ _ (at .loop .inv) (at-test .loop-test .taken) (at-children-of .children-of .result) (at-children-of .children-of .ensures)
+    _ (c .before .only .given .1)
 
 cast-scope : tie.Need-cast-scope Inv-loop μ-loop
 cast-scope c = search needs
 
 mul-scope : tie.Need-mul-scope Inv-loop μ-loop
-mul-scope c = let below : c .before .only .given .0 .0 < 256 = let at = c .before .before .before .before .before .before .before .before .before .before in only-within (at .before .before .args .t1) (at .before .before .pre .0) _ _ _ (at .loop .inv) (c .before .before .before .before .before .before .before .before .before .loop-test .taken) (c .before .before .before .children-of .result) (c .before .before .before .children-of .ensures) _ (c .before .only .given .1) in record { fits = omega arith }
+mul-scope c =
+    let at-children-of = c .before .before .before in
+    let at-test = at-children-of .before .before .before .before .before .before in
+    let below : c .before .only .given .0 .0 < 256 = let at = at-test .before in only-within (at .before .before .args .t1) (at .before .before .pre .0) _ _ _ (at .loop .inv) (at-test .loop-test .taken) (at-children-of .children-of .result) (at-children-of .children-of .ensures) _ (c .before .only .given .1) in
+    record { fits = omega arith }
 
 array-write-scope : tie.Need-array-write-scope Inv-loop μ-loop
-array-write-scope c = let at = c .before .before .before .before .before .before .before .before .before .before in only-within (at .before .before .args .t1) (at .before .before .pre .0) _ _ _ (at .loop .inv) (c .before .before .before .before .before .before .before .before .before .loop-test .taken) (c .before .before .before .children-of .result) (c .before .before .before .children-of .ensures) _ (c .before .only .given .1)
+array-write-scope c =
+    let at-children-of = c .before .before .before in
+    let at-test = at-children-of .before .before .before .before .before .before in
+    let at = at-test .before in
+    only-within (at .before .before .args .t1) (at .before .before .pre .0) _ _ _ (at .loop .inv) (at-test .loop-test .taken) (at-children-of .children-of .result) (at-children-of .children-of .ensures)
+    _ (c .before .only .given .1)
 
 loop-less-2 : tie.Need-loop-less-2 Inv-loop μ-loop
 loop-less-2 c = search needs
 
 loop-again-2 : tie.Need-loop-again-2 Inv-loop μ-loop
-loop-again-2 c = let at = c .before .before .before .before .before .before .before .before .before .before in row-turned (at .before .before .args .t1) (at .before .before .pre .0) _ _ _ (at .loop .inv) (c .before .before .before .before .before .before .before .before .before .loop-test .taken) (c .before .before .before .before .before .before .before .before .if1 .left) _ (c .before .before .before .before .before .before .reads-within .ensures) (c .before .before .before .before .before .if2 .left) _ (c .before .before .before .before .with-binder .ensures) (c .before .before .before .children-of .result) (c .before .before .before .children-of .ensures) (_ ∷ []) (ap listed (c .before .only .given .1))
+loop-again-2 c =
+    let at-children-of = c .before .before .before in
+    let at-with-binder = at-children-of .before in
+    let at-if2 = at-with-binder .before in
+    let at-reads-within = at-if2 .before in
+    let at-if1 = at-reads-within .before .before in
+    let at-test = at-if1 .before in
+    let at = at-test .before in
+    row-turned (at .before .before .args .t1) (at .before .before .pre .0) _ _ _ (at .loop .inv) (at-test .loop-test .taken) (at-if1 .if1 .left) _ (at-reads-within .reads-within .ensures)
+    (at-if2 .if2 .left) _ (at-with-binder .with-binder .ensures) (at-children-of .children-of .result) (at-children-of .children-of .ensures) (_ ∷ []) (ap listed (c .before .only .given .1))
 
 enum-known-first : tie.Need-enum-known-first Inv-loop μ-loop
 enum-known-first c = search needs
@@ -105,37 +136,74 @@ cast-reached-2 : tie.Need-cast-reached-2 Inv-loop μ-loop
 cast-reached-2 c = search needs
 
 array-write-reached-3 : tie.Need-array-write-reached-3 Inv-loop μ-loop
-array-write-reached-3 c = let at = c .before .before .before .before .before .before .before .before .before .before in first-within (at .before .before .args .t1) (at .before .before .pre .0) _ _ _ (at .loop .inv) (c .before .before .before .before .before .before .before .before .before .loop-test .taken) (c .before .before .before .children-of .result) (c .before .before .before .children-of .ensures) _ _ (c .before .first .given .1)
+array-write-reached-3 c =
+    let at-children-of = c .before .before .before in
+    let at-test = at-children-of .before .before .before .before .before .before in
+    let at = at-test .before in
+    first-within (at .before .before .args .t1) (at .before .before .pre .0) _ _ _ (at .loop .inv) (at-test .loop-test .taken) (at-children-of .children-of .result)
+    (at-children-of .children-of .ensures) _ _ (c .before .first .given .1)
 
 cast-reached-3 : tie.Need-cast-reached-3 Inv-loop μ-loop
 cast-reached-3 c = search needs
 
 array-write-reached-4 : tie.Need-array-write-reached-4 Inv-loop μ-loop
-array-write-reached-4 c = let at = c .before .before .before .before .before .before .before .before .before .before in second-within (at .before .before .args .t1) (at .before .before .pre .0) _ _ _ (at .loop .inv) (c .before .before .before .before .before .before .before .before .before .loop-test .taken) (c .before .before .before .children-of .result) (c .before .before .before .children-of .ensures) _ _ (c .before .first .given .1)
+array-write-reached-4 c =
+    let at-children-of = c .before .before .before in
+    let at-test = at-children-of .before .before .before .before .before .before in
+    let at = at-test .before in
+    second-within (at .before .before .args .t1) (at .before .before .pre .0) _ _ _ (at .loop .inv) (at-test .loop-test .taken) (at-children-of .children-of .result)
+    (at-children-of .children-of .ensures) _ _ (c .before .first .given .1)
 
 cast-scope-2 : tie.Need-cast-scope-2 Inv-loop μ-loop
 cast-scope-2 c = search needs
 
 mul-scope-2 : tie.Need-mul-scope-2 Inv-loop μ-loop
-mul-scope-2 c = let below : c .before .first .given .0 .0 < 256 = let at = c .before .before .before .before .before .before .before .before .before .before in first-within (at .before .before .args .t1) (at .before .before .pre .0) _ _ _ (at .loop .inv) (c .before .before .before .before .before .before .before .before .before .loop-test .taken) (c .before .before .before .children-of .result) (c .before .before .before .children-of .ensures) _ _ (c .before .first .given .1) in record { fits = omega arith }
+mul-scope-2 c =
+    let at-children-of = c .before .before .before in
+    let at-test = at-children-of .before .before .before .before .before .before in
+    let below : c .before .first .given .0 .0 < 256 = let at = at-test .before in first-within (at .before .before .args .t1) (at .before .before .pre .0) _ _ _ (at .loop .inv) (at-test .loop-test .taken) (at-children-of .children-of .result) (at-children-of .children-of .ensures) _ _ (c .before .first .given .1) in
+    record { fits = omega arith }
 
 array-write-scope-2 : tie.Need-array-write-scope-2 Inv-loop μ-loop
-array-write-scope-2 c = let at = c .before .before .before .before .before .before .before .before .before .before in first-within (at .before .before .args .t1) (at .before .before .pre .0) _ _ _ (at .loop .inv) (c .before .before .before .before .before .before .before .before .before .loop-test .taken) (c .before .before .before .children-of .result) (c .before .before .before .children-of .ensures) _ _ (c .before .first .given .1)
+array-write-scope-2 c =
+    let at-children-of = c .before .before .before in
+    let at-test = at-children-of .before .before .before .before .before .before in
+    let at = at-test .before in
+    first-within (at .before .before .args .t1) (at .before .before .pre .0) _ _ _ (at .loop .inv) (at-test .loop-test .taken) (at-children-of .children-of .result)
+    (at-children-of .children-of .ensures) _ _ (c .before .first .given .1)
 
 cast-scope-3 : tie.Need-cast-scope-3 Inv-loop μ-loop
 cast-scope-3 c = search needs
 
 mul-scope-3 : tie.Need-mul-scope-3 Inv-loop μ-loop
-mul-scope-3 c = let below : c .before .first .given .0 .1 .0 < 256 = let at = c .before .before .before .before .before .before .before .before .before .before in second-within (at .before .before .args .t1) (at .before .before .pre .0) _ _ _ (at .loop .inv) (c .before .before .before .before .before .before .before .before .before .loop-test .taken) (c .before .before .before .children-of .result) (c .before .before .before .children-of .ensures) _ _ (c .before .first .given .1) in record { fits = omega arith }
+mul-scope-3 c =
+    let at-children-of = c .before .before .before in
+    let at-test = at-children-of .before .before .before .before .before .before in
+    let below : c .before .first .given .0 .1 .0 < 256 = let at = at-test .before in second-within (at .before .before .args .t1) (at .before .before .pre .0) _ _ _ (at .loop .inv) (at-test .loop-test .taken) (at-children-of .children-of .result) (at-children-of .children-of .ensures) _ _ (c .before .first .given .1) in
+    record { fits = omega arith }
 
 array-write-scope-3 : tie.Need-array-write-scope-3 Inv-loop μ-loop
-array-write-scope-3 c = let at = c .before .before .before .before .before .before .before .before .before .before in second-within (at .before .before .args .t1) (at .before .before .pre .0) _ _ _ (at .loop .inv) (c .before .before .before .before .before .before .before .before .before .loop-test .taken) (c .before .before .before .children-of .result) (c .before .before .before .children-of .ensures) _ _ (c .before .first .given .1)
+array-write-scope-3 c =
+    let at-children-of = c .before .before .before in
+    let at-test = at-children-of .before .before .before .before .before .before in
+    let at = at-test .before in
+    second-within (at .before .before .args .t1) (at .before .before .pre .0) _ _ _ (at .loop .inv) (at-test .loop-test .taken) (at-children-of .children-of .result)
+    (at-children-of .children-of .ensures) _ _ (c .before .first .given .1)
 
 loop-less-3 : tie.Need-loop-less-3 Inv-loop μ-loop
 loop-less-3 c = search needs
 
 loop-again-3 : tie.Need-loop-again-3 Inv-loop μ-loop
-loop-again-3 c = let at = c .before .before .before .before .before .before .before .before .before .before in row-turned (at .before .before .args .t1) (at .before .before .pre .0) _ _ _ (at .loop .inv) (c .before .before .before .before .before .before .before .before .before .loop-test .taken) (c .before .before .before .before .before .before .before .before .if1 .left) _ (c .before .before .before .before .before .before .reads-within .ensures) (c .before .before .before .before .before .if2 .left) _ (c .before .before .before .before .with-binder .ensures) (c .before .before .before .children-of .result) (c .before .before .before .children-of .ensures) (_ ∷ _ ∷ []) (ap listed (c .before .first .given .1))
+loop-again-3 c =
+    let at-children-of = c .before .before .before in
+    let at-with-binder = at-children-of .before in
+    let at-if2 = at-with-binder .before in
+    let at-reads-within = at-if2 .before in
+    let at-if1 = at-reads-within .before .before in
+    let at-test = at-if1 .before in
+    let at = at-test .before in
+    row-turned (at .before .before .args .t1) (at .before .before .pre .0) _ _ _ (at .loop .inv) (at-test .loop-test .taken) (at-if1 .if1 .left) _ (at-reads-within .reads-within .ensures)
+    (at-if2 .if2 .left) _ (at-with-binder .with-binder .ensures) (at-children-of .children-of .result) (at-children-of .children-of .ensures) (_ ∷ _ ∷ []) (ap listed (c .before .first .given .1))
 
 returns-3 : tie.Need-returns-3 Inv-loop μ-loop
 returns-3 c = record { tree = λ e. walk-ends (lists (c .before .before .before .args .t1)) (c .before .before .before .pre .0) _ _ _ (omega arith) (c .before .loop .inv); no-tree = λ e closed. false≢true (sym e) }

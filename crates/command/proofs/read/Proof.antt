@@ -71,11 +71,31 @@ begins-requires-3 c κs = search needs
 
 returns-5 : tie.Need-returns-5
 unfolding said commandOf
-returns-5 c = test-failed _ _ _ _ _ (c .before .before .before .before .before .before .before .before .before .before .before .before .before .begins .ensures) (c .before .before .before .before .before .before .before .before .before .before .before .before .if1 .left) (test-failed _ _ _ _ _ (c .before .before .before .before .before .before .before .before .before .before .begins2 .ensures) (c .before .before .before .before .before .before .before .before .before .if2 .left) (test-failed _ _ _ _ _ (c .before .before .before .before .before .before .before .same .ensures) (c .before .before .before .before .before .before .if3 .left) (test-failed _ _ _ _ _ (c .before .before .before .before .same2 .ensures) (c .before .before .before .if4 .left) (test-passed _ _ _ _ _ (c .before .begins3 .ensures) (c .if5 .taken) refl))))
+returns-5 c =
+    let at-if4 = c .before .before .before in
+    let at-same2 = at-if4 .before in
+    let at-if3 = at-same2 .before .before in
+    let at-same = at-if3 .before in
+    let at-if2 = at-same .before .before in
+    let at-begins2 = at-if2 .before in
+    let at-if1 = at-begins2 .before .before in
+    let at-begins = at-if1 .before in
+    test-failed _ _ _ _ _ (at-begins .begins .ensures) (at-if1 .if1 .left)
+    (test-failed _ _ _ _ _ (at-begins2 .begins2 .ensures) (at-if2 .if2 .left) (test-failed _ _ _ _ _ (at-same .same .ensures) (at-if3 .if3 .left) (test-failed _ _ _ _ _ (at-same2 .same2 .ensures) (at-if4 .if4 .left) (test-passed _ _ _ _ _ (c .before .begins3 .ensures) (c .if5 .taken) refl))))
 
 returns-6 : tie.Need-returns-6
 unfolding said commandOf
-returns-6 c = test-failed _ _ _ _ _ (c .before .before .before .before .before .before .before .before .before .before .before .before .before .begins .ensures) (c .before .before .before .before .before .before .before .before .before .before .before .before .if1 .left) (test-failed _ _ _ _ _ (c .before .before .before .before .before .before .before .before .before .before .begins2 .ensures) (c .before .before .before .before .before .before .before .before .before .if2 .left) (test-failed _ _ _ _ _ (c .before .before .before .before .before .before .before .same .ensures) (c .before .before .before .before .before .before .if3 .left) (test-failed _ _ _ _ _ (c .before .before .before .before .same2 .ensures) (c .before .before .before .if4 .left) (test-failed _ _ _ _ _ (c .before .begins3 .ensures) (c .if5 .left) refl))))
+returns-6 c =
+    let at-if4 = c .before .before .before in
+    let at-same2 = at-if4 .before in
+    let at-if3 = at-same2 .before .before in
+    let at-same = at-if3 .before in
+    let at-if2 = at-same .before .before in
+    let at-begins2 = at-if2 .before in
+    let at-if1 = at-begins2 .before .before in
+    let at-begins = at-if1 .before in
+    test-failed _ _ _ _ _ (at-begins .begins .ensures) (at-if1 .if1 .left)
+    (test-failed _ _ _ _ _ (at-begins2 .begins2 .ensures) (at-if2 .if2 .left) (test-failed _ _ _ _ _ (at-same .same .ensures) (at-if3 .if3 .left) (test-failed _ _ _ _ _ (at-same2 .same2 .ensures) (at-if4 .if4 .left) (test-failed _ _ _ _ _ (c .before .begins3 .ensures) (c .if5 .left) refl))))
 
 pub read-spec : {M : Type 1} → statement M
 read-spec =

@@ -23,7 +23,12 @@ same-length : tie.Need-same-length
 same-length c = search needs
 
 returns : tie.Need-returns
-returns c = add-printed _ _ _ (rw (c .before .before .before .before .before .before .before .before .before .six .ensures .0) at (c .before .before .before .before .before .before .before .before .load .ensures)) (c .before .before .before .before .before .before .before .before .before .before .before .before .pre) (c .before .before .before .before .before .before .if1 .taken) _ _ (c .before .before .write-pair .ensures)
+returns c =
+    let at-if1 = c .before .before .before .before .before .before in
+    let at-load = at-if1 .before .before in
+    let at-six = at-load .before in
+    let at-pre = at-six .before .before .before in
+    add-printed _ _ _ (rw (at-six .six .ensures .0) at (at-load .load .ensures)) (at-pre .pre) (at-if1 .if1 .taken) _ _ (c .before .before .write-pair .ensures)
 
 print-requires : tie.Need-print-requires
 print-requires c κs = search needs
@@ -32,7 +37,12 @@ same-length-2 : tie.Need-same-length-2
 same-length-2 c = search needs
 
 returns-2 : tie.Need-returns-2
-returns-2 c = inference-printed _ _ _ (rw (c .before .before .before .before .before .before .before .six .ensures .0) at (c .before .before .before .before .before .before .load .ensures)) (c .before .before .before .before .before .before .before .before .before .before .pre) _ _ (c .before .before .before .before .if1 .left) (c .before .before .print .ensures)
+returns-2 c =
+    let at-if1 = c .before .before .before .before in
+    let at-load = at-if1 .before .before in
+    let at-six = at-load .before in
+    let at-pre = at-six .before .before .before in
+    inference-printed _ _ _ (rw (at-six .six .ensures .0) at (at-load .load .ensures)) (at-pre .pre) _ _ (at-if1 .if1 .left) (c .before .before .print .ensures)
 
 pub print-spec : {M : Type 1} → statement M
 print-spec =

@@ -43,13 +43,24 @@ cast-result-4 : tie.Need-cast-result-4
 cast-result-4 c = omega (arith, bounded _ _ _ _ _ _ (c .before .before .before .before .before .before .before .before .before .before .load .ensures) (c .before .before .before .before .before .before .infer .ensures) .1)
 
 add-result-2 : tie.Need-add-result-2
-add-result-2 c = omega (arith, bounded _ _ _ _ _ _ (c .before .before .before .before .before .before .before .before .before .before .load .ensures) (c .before .before .before .before .before .before .infer .ensures) .0, bounded _ _ _ _ _ _ (c .before .before .before .before .before .before .before .before .before .before .load .ensures) (c .before .before .before .before .before .before .infer .ensures) .1)
+add-result-2 c =
+    let at-infer = c .before .before .before .before .before .before in
+    let at-load = at-infer .before .before .before .before in
+    omega (arith, bounded _ _ _ _ _ _ (at-load .load .ensures) (at-infer .infer .ensures) .0, bounded _ _ _ _ _ _ (at-load .load .ensures) (at-infer .infer .ensures) .1)
 
 same-length : tie.Need-same-length
 same-length c = search needs
 
 returns-3 : tie.Need-returns-3
-returns-3 c = inference-returned (c .before .before .before .before .before .before .before .before .before .before .before .before .before .before .before .pre .sound) _ _ _ (c .before .before .before .before .before .before .before .before .before .before .before .front .ensures) _ (c .before .before .before .before .before .before .before .before .before .before .load .ensures) _ _ (c .before .before .before .before .before .before .infer .ensures) (c .before .before .before .before .before .before .before .before .if2 .left) (c .before .before .before .before .before .before .before .before .before .before .before .before .if1 .left) (c .before .before .if3 .taken)
+returns-3 c =
+    let at-infer = c .before .before .before .before .before .before in
+    let at-if2 = at-infer .before .before in
+    let at-load = at-if2 .before .before in
+    let at-front = at-load .before in
+    let at-if1 = at-front .before in
+    let at-pre = at-if1 .before .before .before in
+    inference-returned (at-pre .pre .sound) _ _ _ (at-front .front .ensures) _ (at-load .load .ensures) _ _ (at-infer .infer .ensures) (at-if2 .if2 .left) (at-if1 .if1 .left)
+    (c .before .before .if3 .taken)
 
 cast-result-5 : tie.Need-cast-result-5
 cast-result-5 c = omega (arith, bounded _ _ _ _ _ _ (c .before .before .before .before .before .before .before .before .before .load .ensures) (c .before .before .before .before .before .infer .ensures) .2)
@@ -61,7 +72,14 @@ same-length-2 : tie.Need-same-length-2
 same-length-2 c = search needs
 
 returns-4 : tie.Need-returns-4
-returns-4 c = report-returned (c .before .before .before .before .before .before .before .before .before .before .before .before .before .before .pre .sound) _ _ _ (c .before .before .before .before .before .before .before .before .before .before .front .ensures) _ (c .before .before .before .before .before .before .before .before .before .load .ensures) _ _ (c .before .before .before .before .before .infer .ensures) (c .before .before .before .before .before .before .before .if2 .left) (c .before .before .before .before .before .before .before .before .before .before .before .if1 .left) (c .before .if3 .left)
+returns-4 c =
+    let at-infer = c .before .before .before .before .before in
+    let at-if2 = at-infer .before .before in
+    let at-load = at-if2 .before .before in
+    let at-front = at-load .before in
+    let at-if1 = at-front .before in
+    let at-pre = at-if1 .before .before .before in
+    report-returned (at-pre .pre .sound) _ _ _ (at-front .front .ensures) _ (at-load .load .ensures) _ _ (at-infer .infer .ensures) (at-if2 .if2 .left) (at-if1 .if1 .left) (c .before .if3 .left)
 
 pub report-spec : {M : Type 1} → statement M
 report-spec =

@@ -29,7 +29,13 @@ fresh-requires : tie.Need-fresh-requires Inv-loop μ-loop
 fresh-requires c κs = search needs
 
 loop-holds : tie.Need-loop-holds Inv-loop μ-loop
-loop-holds c = (search needs, refl, machine-starts (c .before .before .before .before .args .script .now) _ (c .before .fewer .result) (c .fresh .ensures .0), numbers-start (c .before .before .before .before .args .script .now) _ (c .before .fewer .result) (c .fresh .ensures .0) (c .before .before .before .before .args .numbers .now))
+loop-holds c =
+    let at-args = c .before .before .before .before in (
+      search needs,
+      refl,
+      machine-starts (at-args .args .script .now) _ (c .before .fewer .result) (c .fresh .ensures .0),
+      numbers-start (at-args .args .script .now) _ (c .before .fewer .result) (c .fresh .ensures .0) (at-args .args .numbers .now),
+    )
 
 mul-at : tie.Need-mul-at Inv-loop μ-loop
 mul-at c = search needs
@@ -62,13 +68,29 @@ loop-less : tie.Need-loop-less Inv-loop μ-loop
 loop-less c = search needs
 
 loop-again : tie.Need-loop-again Inv-loop μ-loop
-loop-again c = let at = c .before .before .before .before in (search needs, simp length-set (at .loop .inv .1), call-left (at .before .before .before .before .before .args .script .now) (at .loop .table) _ (at .loop .i) (at .loop .numbers) _ _ (at .loop .inv .2) (at .loop .inv .3) (c .before .before .before .loop-test .taken) _ (c .before .answer .ensures), number-left (at .before .before .before .before .before .args .script .now) (at .loop .table) _ (at .loop .i) (at .loop .numbers) _ _ (at .loop .inv .2) (at .loop .inv .3) (c .before .before .before .loop-test .taken) _ (c .before .answer .ensures))
+loop-again c =
+    let at-test = c .before .before .before in
+    let at = at-test .before in (
+      search needs,
+      simp length-set (at .loop .inv .1),
+      call-left (at .before .before .before .before .before .args .script .now) (at .loop .table) _ (at .loop .i) (at .loop .numbers) _ _ (at .loop .inv .2) (at .loop .inv .3) (at-test .loop-test .taken)
+          _ (c .before .answer .ensures),
+      number-left (at .before .before .before .before .before .args .script .now) (at .loop .table) _ (at .loop .i) (at .loop .numbers) _ _ (at .loop .inv .2) (at .loop .inv .3)
+          (at-test .loop-test .taken) _ (c .before .answer .ensures),
+    )
 
 same-length : tie.Need-same-length Inv-loop μ-loop
 same-length c = c .before .loop .inv .1
 
 returns : tie.Need-returns Inv-loop μ-loop
-returns c = let a = c .before .before .before .before .before .before .args in let done = calls-done (a .script .now) (c .before .loop .table) (c .before .before .before .fewer .result) (c .before .loop .i) (c .before .loop .numbers) _ _ (c .before .loop .inv .2) (c .before .loop .inv .3) (c .loop-test .left) in (done .0 ∙ ap (λ n. machineAfter (freshMachine sixTable) (callsFrom (a .script .now) 0 n)) (c .before .before .before .fewer .ensures), done .1 ∙ ap (λ n. sets (a .numbers .now) 0 (numbersOf (freshMachine sixTable) (callsFrom (a .script .now) 0 n))) (c .before .before .before .fewer .ensures))
+returns c =
+    let at-fewer = c .before .before .before in
+    let at-args = at-fewer .before .before .before in
+    let a = at-args .args in
+    let done = calls-done (a .script .now) (c .before .loop .table) (at-fewer .fewer .result) (c .before .loop .i) (c .before .loop .numbers) _ _ (c .before .loop .inv .2) (c .before .loop .inv .3) (c .loop-test .left) in (
+      done .0 ∙ ap (λ n. machineAfter (freshMachine sixTable) (callsFrom (a .script .now) 0 n)) (at-fewer .fewer .ensures),
+      done .1 ∙ ap (λ n. sets (a .numbers .now) 0 (numbersOf (freshMachine sixTable) (callsFrom (a .script .now) 0 n))) (at-fewer .fewer .ensures),
+    )
 
 pub run-spec : {M : Type 1} → statement M
 run-spec =

@@ -40,7 +40,13 @@ same-length-2 : tie.Need-same-length-2
 same-length-2 c = search needs
 
 returns : tie.Need-returns
-returns c = (sizes-are _ _ _ _ _ (c .before .before .before .before .before .before .before .before .before .run .ensures .0) (c .before .before .type-rows .ensures .0) (c .before .parameters .ensures .0) (c .term-rows .ensures .0), (c .before .before .before .before .before .before .before .before .before .run .ensures .1, c .before .before .before .before .before .dump .ensures ∙ ap (λ m. dumped m (c .before .before .before .before .before .before .before .before .before .before .before .before .before .before .args .entries .now)) (c .before .before .before .before .before .before .before .before .before .run .ensures .0)))
+returns c =
+    let at-dump = c .before .before .before .before .before in
+    let at-run = at-dump .before .before .before .before in
+    let at-args = at-run .before .before .before .before .before in (
+      sizes-are _ _ _ _ _ (at-run .run .ensures .0) (c .before .before .type-rows .ensures .0) (c .before .parameters .ensures .0) (c .term-rows .ensures .0),
+      (at-run .run .ensures .1, at-dump .dump .ensures ∙ ap (λ m. dumped m (at-args .args .entries .now)) (at-run .run .ensures .0)),
+    )
 
 pub run-calls-spec : {M : Type 1} → statement M
 run-calls-spec =

@@ -40,7 +40,13 @@ stopped-requires : tie.Need-stopped-requires Inv-loop μ-loop
 stopped-requires c κs = search needs
 
 returns : tie.Need-returns Inv-loop μ-loop
-returns c = subst (Loads _ _) (sym (c .stopped .ensures)) (entry-refused _ _ _ _ _ (c .before .before .before .before .before .before .before .before .loop-test .taken) (c .before .before .before .before .before .before .before .line-end .ensures) _ _ _ _ (c .before .before .before .before .before .before .before .before .before .loop .inv) _ (c .before .before .before .before .before .read .ensures) _ (c .before .before .refusal .ensures) (c .before .if1 .taken))
+returns c =
+    let at-read = c .before .before .before .before .before in
+    let at-line-end = at-read .before .before in
+    let at-loop-test = at-line-end .before in
+    let at-loop = at-loop-test .before in
+    subst (Loads _ _) (sym (c .stopped .ensures))
+    (entry-refused _ _ _ _ _ (at-loop-test .loop-test .taken) (at-line-end .line-end .ensures) _ _ _ _ (at-loop .loop .inv) _ (at-read .read .ensures) _ (c .before .before .refusal .ensures) (c .before .if1 .taken))
 
 add-from : tie.Need-add-from Inv-loop μ-loop
 add-from c = search (turns, needs)
@@ -58,7 +64,15 @@ mul-t29 : tie.Need-mul-t29 Inv-loop μ-loop
 mul-t29 c = search needs
 
 element-set-from-table : tie.Need-element-set-from-table Inv-loop μ-loop
-element-set-from-table c = type-fits _ _ _ _ _ (c .before .before .before .before .before .before .before .before .before .before .loop-test .taken) (c .before .before .before .before .before .before .before .before .before .line-end .ensures) _ _ _ _ (c .before .before .before .before .before .before .before .before .before .before .before .loop .inv) _ (c .before .before .before .before .before .before .before .read .ensures) _ (c .before .before .before .before .refusal .ensures) (c .before .before .before .if1 .left) _ _ (c .before .entry .given .1)
+element-set-from-table c =
+    let at-if1 = c .before .before .before in
+    let at-refusal = at-if1 .before in
+    let at-read = at-refusal .before .before .before in
+    let at-line-end = at-read .before .before in
+    let at-loop-test = at-line-end .before in
+    let at-loop = at-loop-test .before in
+    type-fits _ _ _ _ _ (at-loop-test .loop-test .taken) (at-line-end .line-end .ensures) _ _ _ _ (at-loop .loop .inv) _ (at-read .read .ensures) _ (at-refusal .refusal .ensures) (at-if1 .if1 .left) _ _
+    (c .before .entry .given .1)
 
 cast-table : tie.Need-cast-table Inv-loop μ-loop
 cast-table c = search needs
@@ -70,7 +84,15 @@ loop-less : tie.Need-loop-less Inv-loop μ-loop
 loop-less c = search needs
 
 loop-again : tie.Need-loop-again Inv-loop μ-loop
-loop-again c = type-turned _ _ _ _ _ (c .before .before .before .before .before .before .before .before .before .before .loop-test .taken) (c .before .before .before .before .before .before .before .before .before .line-end .ensures) _ _ _ _ (c .before .before .before .before .before .before .before .before .before .before .before .loop .inv) _ (c .before .before .before .before .before .before .before .read .ensures) _ (c .before .before .before .before .refusal .ensures) (c .before .before .before .if1 .left) _ _ (c .before .entry .given .1)
+loop-again c =
+    let at-if1 = c .before .before .before in
+    let at-refusal = at-if1 .before in
+    let at-read = at-refusal .before .before .before in
+    let at-line-end = at-read .before .before in
+    let at-loop-test = at-line-end .before in
+    let at-loop = at-loop-test .before in
+    type-turned _ _ _ _ _ (at-loop-test .loop-test .taken) (at-line-end .line-end .ensures) _ _ _ _ (at-loop .loop .inv) _ (at-read .read .ensures) _ (at-refusal .refusal .ensures) (at-if1 .if1 .left) _ _
+    (c .before .entry .given .1)
 
 enum-known-entry-2 : tie.Need-enum-known-entry-2 Inv-loop μ-loop
 enum-known-entry-2 c = search needs
@@ -82,7 +104,15 @@ mul-param : tie.Need-mul-param Inv-loop μ-loop
 mul-param c = search needs
 
 element-set-from-param : tie.Need-element-set-from-param Inv-loop μ-loop
-element-set-from-param c = param-fits _ _ _ _ _ (c .before .before .before .before .before .before .before .before .before .before .loop-test .taken) (c .before .before .before .before .before .before .before .before .before .line-end .ensures) _ _ _ _ (c .before .before .before .before .before .before .before .before .before .before .before .loop .inv) _ (c .before .before .before .before .before .before .before .read .ensures) _ (c .before .before .before .before .refusal .ensures) (c .before .before .before .if1 .left) _ _ (c .before .entry2 .given .1)
+element-set-from-param c =
+    let at-if1 = c .before .before .before in
+    let at-refusal = at-if1 .before in
+    let at-read = at-refusal .before .before .before in
+    let at-line-end = at-read .before .before in
+    let at-loop-test = at-line-end .before in
+    let at-loop = at-loop-test .before in
+    param-fits _ _ _ _ _ (at-loop-test .loop-test .taken) (at-line-end .line-end .ensures) _ _ _ _ (at-loop .loop .inv) _ (at-read .read .ensures) _ (at-refusal .refusal .ensures) (at-if1 .if1 .left) _ _
+    (c .before .entry2 .given .1)
 
 cast-table-2 : tie.Need-cast-table-2 Inv-loop μ-loop
 cast-table-2 c = search needs
@@ -94,7 +124,15 @@ loop-less-2 : tie.Need-loop-less-2 Inv-loop μ-loop
 loop-less-2 c = search needs
 
 loop-again-2 : tie.Need-loop-again-2 Inv-loop μ-loop
-loop-again-2 c = param-turned _ _ _ _ _ (c .before .before .before .before .before .before .before .before .before .before .loop-test .taken) (c .before .before .before .before .before .before .before .before .before .line-end .ensures) _ _ _ _ (c .before .before .before .before .before .before .before .before .before .before .before .loop .inv) _ (c .before .before .before .before .before .before .before .read .ensures) _ (c .before .before .before .before .refusal .ensures) (c .before .before .before .if1 .left) _ _ (c .before .entry2 .given .1)
+loop-again-2 c =
+    let at-if1 = c .before .before .before in
+    let at-refusal = at-if1 .before in
+    let at-read = at-refusal .before .before .before in
+    let at-line-end = at-read .before .before in
+    let at-loop-test = at-line-end .before in
+    let at-loop = at-loop-test .before in
+    param-turned _ _ _ _ _ (at-loop-test .loop-test .taken) (at-line-end .line-end .ensures) _ _ _ _ (at-loop .loop .inv) _ (at-read .read .ensures) _ (at-refusal .refusal .ensures) (at-if1 .if1 .left) _
+    _ (c .before .entry2 .given .1)
 
 enum-known-entry-3 : tie.Need-enum-known-entry-3 Inv-loop μ-loop
 enum-known-entry-3 c = search needs
@@ -106,7 +144,15 @@ mul-t38 : tie.Need-mul-t38 Inv-loop μ-loop
 mul-t38 c = search needs
 
 element-set-from-table-2 : tie.Need-element-set-from-table-2 Inv-loop μ-loop
-element-set-from-table-2 c = term-fits _ _ _ _ _ (c .before .before .before .before .before .before .before .before .before .before .loop-test .taken) (c .before .before .before .before .before .before .before .before .before .line-end .ensures) _ _ _ _ (c .before .before .before .before .before .before .before .before .before .before .before .loop .inv) _ (c .before .before .before .before .before .before .before .read .ensures) _ (c .before .before .before .before .refusal .ensures) (c .before .before .before .if1 .left) _ _ (c .before .entry3 .given .1)
+element-set-from-table-2 c =
+    let at-if1 = c .before .before .before in
+    let at-refusal = at-if1 .before in
+    let at-read = at-refusal .before .before .before in
+    let at-line-end = at-read .before .before in
+    let at-loop-test = at-line-end .before in
+    let at-loop = at-loop-test .before in
+    term-fits _ _ _ _ _ (at-loop-test .loop-test .taken) (at-line-end .line-end .ensures) _ _ _ _ (at-loop .loop .inv) _ (at-read .read .ensures) _ (at-refusal .refusal .ensures) (at-if1 .if1 .left) _ _
+    (c .before .entry3 .given .1)
 
 cast-table-3 : tie.Need-cast-table-3 Inv-loop μ-loop
 cast-table-3 c = search needs
@@ -115,13 +161,31 @@ add-table-3 : tie.Need-add-table-3 Inv-loop μ-loop
 add-table-3 c = search needs
 
 mark-requires : tie.Need-mark-requires Inv-loop μ-loop
-mark-requires c κs = term-within _ _ _ _ _ (c .before .before .before .before .before .before .before .before .before .before .before .before .loop-test .taken) (c .before .before .before .before .before .before .before .before .before .before .before .line-end .ensures) _ _ _ _ (c .before .before .before .before .before .before .before .before .before .before .before .before .before .loop .inv) _ (c .before .before .before .before .before .before .before .before .before .read .ensures) _ (c .before .before .before .before .before .before .refusal .ensures) (c .before .before .before .before .before .if1 .left) _ _ (c .before .before .before .entry3 .given .1)
+mark-requires c κs =
+    let at-entry3 = c .before .before .before in
+    let at-if1 = at-entry3 .before .before in
+    let at-refusal = at-if1 .before in
+    let at-read = at-refusal .before .before .before in
+    let at-line-end = at-read .before .before in
+    let at-loop-test = at-line-end .before in
+    let at-loop = at-loop-test .before in
+    term-within _ _ _ _ _ (at-loop-test .loop-test .taken) (at-line-end .line-end .ensures) _ _ _ _ (at-loop .loop .inv) _ (at-read .read .ensures) _ (at-refusal .refusal .ensures) (at-if1 .if1 .left) _ _
+    (at-entry3 .entry3 .given .1)
 
 loop-less-3 : tie.Need-loop-less-3 Inv-loop μ-loop
 loop-less-3 c = search needs
 
 loop-again-3 : tie.Need-loop-again-3 Inv-loop μ-loop
-loop-again-3 c = term-turned _ _ _ _ _ (c .before .before .before .before .before .before .before .before .before .before .before .before .before .loop-test .taken) (c .before .before .before .before .before .before .before .before .before .before .before .before .line-end .ensures) _ _ _ _ (c .before .before .before .before .before .before .before .before .before .before .before .before .before .before .loop .inv) _ (c .before .before .before .before .before .before .before .before .before .before .read .ensures) _ (c .before .before .before .before .before .before .before .refusal .ensures) (c .before .before .before .before .before .before .if1 .left) _ _ (c .before .before .before .before .entry3 .given .1) _ _ (c .mark .ensures)
+loop-again-3 c =
+    let at-entry3 = c .before .before .before .before in
+    let at-if1 = at-entry3 .before .before in
+    let at-refusal = at-if1 .before in
+    let at-read = at-refusal .before .before .before in
+    let at-line-end = at-read .before .before in
+    let at-loop-test = at-line-end .before in
+    let at-loop = at-loop-test .before in
+    term-turned _ _ _ _ _ (at-loop-test .loop-test .taken) (at-line-end .line-end .ensures) _ _ _ _ (at-loop .loop .inv) _ (at-read .read .ensures) _ (at-refusal .refusal .ensures) (at-if1 .if1 .left) _ _
+    (at-entry3 .entry3 .given .1) _ _ (c .mark .ensures)
 
 enum-told : tie.Need-enum-told Inv-loop μ-loop
 enum-told c = search needs
@@ -130,7 +194,14 @@ loop-less-4 : tie.Need-loop-less-4 Inv-loop μ-loop
 loop-less-4 c = search needs
 
 loop-again-4 : tie.Need-loop-again-4 Inv-loop μ-loop
-loop-again-4 c = form-known _ _ _ _ _ (c .before .before .before .before .before .before .before .before .before .loop-test .taken) (c .before .before .before .before .before .before .before .before .line-end .ensures) _ _ _ _ (c .before .before .before .before .before .before .before .before .before .before .loop .inv) _ (c .before .before .before .before .before .before .read .ensures) _ (c .before .before .before .refusal .ensures) (c .before .before .if1 .left) (c .enum-told .given .1)
+loop-again-4 c =
+    let at-refusal = c .before .before .before in
+    let at-read = at-refusal .before .before .before in
+    let at-line-end = at-read .before .before in
+    let at-loop-test = at-line-end .before in
+    let at-loop = at-loop-test .before in
+    form-known _ _ _ _ _ (at-loop-test .loop-test .taken) (at-line-end .line-end .ensures) _ _ _ _ (at-loop .loop .inv) _ (at-read .read .ensures) _ (at-refusal .refusal .ensures)
+    (c .before .before .if1 .left) (c .enum-told .given .1)
 
 stopped-requires-2 : tie.Need-stopped-requires-2 Inv-loop μ-loop
 stopped-requires-2 c κs = search needs
