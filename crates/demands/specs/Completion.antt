@@ -6,7 +6,7 @@ use mathlib.Core.Path.{_≡_}
 use lib.ListN.{length, drop}
 use Rattle.model.specs.Machine.{Machine}
 use Rattle.model.specs.Typing.{Ty, Assignment}
-use Rattle.model.specs.Inference.{ruling, Slot, Listed, qualifierOf, typeOf, IsInt, IsArrow, Shape, Types}
+use Rattle.model.specs.Inference.{ruling, Slot, Listed, slotQualifier, typeOf, IsInt, IsArrow, Shape, Types}
 use Rattle.model.specs.Report.{report}
 use Rattle.model.specs.Session.{Outcome}
 use Rattle.demands.specs.Floors.{MeetsFloors}
@@ -21,7 +21,7 @@ HasShape Shape.any τ = IsInt τ
 pub record Completes (m : Machine) (word : Slot → ℕ) (shape : Slot → Shape) : Type 0 where
   pub typing : Assignment (ruling m .Q)
   pub types : Types (ruling m) m typing
-  pub has-words : (x : Slot) → Listed (ruling m) m x → qualifierOf typing x ≡ ruling m .word (word x)
+  pub has-words : (x : Slot) → Listed (ruling m) m x → slotQualifier typing x ≡ ruling m .word (word x)
   pub has-shapes : (x : Slot) → Listed (ruling m) m x → HasShape (shape x) (typeOf typing x)
 
 -- The bytes of the outcome are the report of schemes and shapes of which something holds, and beyond it those of the buffer.

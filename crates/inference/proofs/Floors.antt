@@ -15,7 +15,8 @@ use Rattle.model.specs.declared.Param.{Param}
 use Rattle.table.specs.Lists.{lists}
 use Rattle.table.specs.declared.Table.{Table}
 use Rattle.table.proofs.Entries.{param-at}
-use Rattle.report.specs.Codes.{Codes, wordOf}
+use Rattle.report.specs.Codes.{codedWord}
+use Rattle.report.specs.declared.Codes.{Codes}
 use Rattle.solver.specs.Runs.{Solves}
 use Rattle.solver.specs.declared.Answer.the-variants.{Placed}
 use Rattle.floors.specs.Lowest.{Worded, Holds, Lowest}
@@ -40,32 +41,32 @@ module _ (t : Table) (ready : Ready t) (codes : Codes) (solves : Solves (lists t
     floor-code : paramIn (t .params) p .floor < words (m .schemes)
     floor-code = omega (arith, same-floor, ready .well-formed .params-stand p stands .2)
 
-    word-code : getD (codes .paramWords) p 0 < words (m .schemes)
+    word-code : getD (codes .paramwords) p 0 < words (m .schemes)
     word-code = solves .0 .worded (param p) stands
 
     -- the order by codes is the order of the qualifiers
-    same-test : under R (paramIn (t .params) p .floor) (getD (codes .paramWords) p 0) ≡ below (m .schemes) (code (qualifier (length (m .schemes .names)) (paramAt m p .floor))) (code (qualifier (length (m .schemes .names)) (getD (codes .paramWords) p 0)))
+    same-test : under R (paramIn (t .params) p .floor) (getD (codes .paramwords) p 0) ≡ below (m .schemes) (code (qualifier (length (m .schemes .names)) (paramAt m p .floor))) (code (qualifier (length (m .schemes .names)) (getD (codes .paramwords) p 0)))
     same-test =
         under-same (ready .well-formed .schemes-sound) (ready-governed t ready .ruled) _ _ floor-code word-code
         ∙ ap₂ (below (m .schemes))
         (sym (code-qualifier (length (m .schemes .names)) _ floor-code) ∙ ap (λ (c : ℕ). code (qualifier (length (m .schemes .names)) c)) same-floor)
         (sym (code-qualifier (length (m .schemes .names)) _ word-code))
 
-    meets : Holds R (t .params) (codes .paramWords) p → WordMeetsFloor (ruling m) m (wordOf codes) p
+    meets : Holds R (t .params) (codes .paramwords) p → WordMeetsFloor (ruling m) m (codedWord codes) p
     meets holds = sym same-test ∙ holds
 
-    misses : ¬ Holds R (t .params) (codes .paramWords) p → ¬ WordMeetsFloor (ruling m) m (wordOf codes) p
+    misses : ¬ Holds R (t .params) (codes .paramwords) p → ¬ WordMeetsFloor (ruling m) m (codedWord codes) p
     misses missed met = missed (same-test ∙ met)
 
-  pub codes-worded : Worded R count (t .params) (codes .paramWords)
+  pub codes-worded : Worded R count (t .params) (codes .paramwords)
   codes-worded p h =
       let many = ready-governed t ready .ruled .words-same in
       (omega (arith, many, floor-code p h), omega (arith, many, word-code p h))
 
-  pub every-met : Lowest R count (t .params) (codes .paramWords) Nowhere → FloorsMet (ruling m) m (wordOf codes)
+  pub every-met : Lowest R count (t .params) (codes .paramwords) Nowhere → FloorsMet (ruling m) m (codedWord codes)
   every-met found p h = let within : p < count = omega arith in meets p within (found p within)
 
-  pub one-missed : (p : ℕ) → Lowest R count (t .params) (codes .paramWords) (At p) → FloorMissed (ruling m) m (wordOf codes) p
+  pub one-missed : (p : ℕ) → Lowest R count (t .params) (codes .paramwords) (At p) → FloorMissed (ruling m) m (codedWord codes) p
   one-missed p found =
       let h : p < count = found .0 in
       record {

@@ -16,8 +16,9 @@ use Rattle.model.specs.Line.{fields}
 use Rattle.table.specs.Lists.{lists}
 use Rattle.table.specs.declared.Table.{Table}
 use Rattle.closed.specs.Decides.{Decides}
-use Rattle.setup.specs.Descriptors.{machineOf}
-use Rattle.report.specs.Codes.{Codes, wordOf}
+use Rattle.readings.specs.Programs.{machineOf}
+use Rattle.report.specs.Codes.{codedWord}
+use Rattle.report.specs.declared.Codes.{Codes}
 use Rattle.report.specs.Written.{Short, Matches, Written}
 use Rattle.solver.specs.Runs.{Solves, Governed}
 use Rattle.solver.specs.declared.Answer.the-variants.{Placed}
@@ -31,9 +32,9 @@ take-taken zero l = refl
 take-taken (suc n) [] = refl
 take-taken (suc n) (x ∷ l) = ap (λ k. x ∷ k) (take-taken n l)
 
--- The arrays with the numbers of entries that stand are the table's lists.
+-- A program of the table's arrays with the numbers of entries that stand has the table's lists.
 pub same-machine : (t : Table) (a b d : ℕ) → a ≡ length (lists t .types) → b ≡ length (lists t .params) → d ≡ length (lists t .terms) →
-    machineOf (tableIn (t .schemes)) (t .types) a (t .params) b (t .terms) d ≡ lists t
+    machineOf (tableIn (t .schemes)) (record { types = t .types; params = t .params; terms = t .terms; typecount = a; paramcount = b; termcount = d }) ≡ lists t
 unfolding lists
 same-machine t a b d e f g = rw (e, f, g, take-taken (t .typecount) (t .types), take-taken (t .paramcount) (t .params), take-taken (t .termcount) (t .terms))
 
@@ -41,10 +42,6 @@ same-machine t a b d e f g = rw (e, f, g, take-taken (t .typecount) (t .types), 
 pub ready-governed : (t : Table) → Ready t → Governed (t .schemes .rule) (lists t)
 unfolding lists
 ready-governed t ready = record { ruled = ready .kept .ruled; well-formed = ready .well-formed }
-
-pub machine-governed : (t : Table) → Ready t → (a b d : ℕ) → a ≡ length (lists t .types) → b ≡ length (lists t .params) → d ≡ length (lists t .terms) →
-    Governed (t .schemes .rule) (machineOf (tableIn (t .schemes)) (t .types) a (t .params) b (t .terms) d)
-machine-governed t ready a b d e f g = subst (Governed (t .schemes .rule)) (sym (same-machine t a b d e f g)) (ready-governed t ready)
 
 -- The names that the report is written with are the machine's.
 module _ (t : Table) (text : List ℕ) (is : text ≡ take (t .schemes .size) (t .schemes .names)) where
@@ -86,12 +83,12 @@ module _ (m : Machine) (buffer : List ℕ) (r : Inferred) where
           (refused {word = λ x. 0} {shape = λ x. Shape.int} h (not-typable closed refusal) (cause-numbered (refusal .cause)))
 
       -- 24
-      pub floor-refused : (codes : Codes) (p : ℕ) → Solves m codes Placed → FloorMissed (ruling m) m (wordOf codes) p → (r .number ≡ 24) × (r .row ≡ p) × (r .size ≡ 0) → Infers m buffer (outcome r buffer)
+      pub floor-refused : (codes : Codes) (p : ℕ) → Solves m codes Placed → FloorMissed (ruling m) m (codedWord codes) p → (r .number ≡ 24) × (r .row ≡ p) × (r .size ≡ 0) → Infers m buffer (outcome r buffer)
       floor-refused codes p solves missed is =
           subst (Infers m buffer) (refuses-is r 24 p buffer is) (refused h (below-floor closed (solves .0) missed) (λ z. omega arith))
 
       -- the report
-      pub report-written : (names : List (List ℕ)) (codes : Codes) (after : List ℕ) (params rows size : ℕ) → m .schemes .names ≡ names → Solves m codes Placed → FloorsMet (ruling m) m (wordOf codes) →
+      pub report-written : (names : List (List ℕ)) (codes : Codes) (after : List ℕ) (params rows size : ℕ) → m .schemes .names ≡ names → Solves m codes Placed → FloorsMet (ruling m) m (codedWord codes) →
           length (m .params) ≡ params → length (m .terms) ≡ rows → Written names codes params rows buffer after size → (r .number ≡ 0) × (r .row ≡ 0) × (r .size ≡ size) → Infers m buffer (outcome r after)
       report-written names codes after params rows size same solves met e f written is =
           let matches = subst₂ (Matches m codes) e f (solves .1) in

@@ -5,13 +5,16 @@ ghost use lib.ListN.{length};
 ghost use Rattle.model.specs.Closed.{Closed};
 ghost use Rattle.model.specs.Session.{Infers};
 ghost use Rattle.table.specs.Lists.{lists};
-ghost use Rattle.report.specs.Codes.{codesOf};
+ghost use Rattle.report.specs.Written.{Written};
 ghost use Rattle.solver.specs.Runs.{Solves};
 ghost use Rattle.inference.specs.Outcome.{outcome};
 ghost use Rattle.table.specs.Ready.{Ready};
 ghost use Rattle.inference.specs.Printed.{Printed};
 use floors::Missed;
+use model::Program;
+use report::Codes;
 use solver::Answer;
+use solver::Solved;
 use table::Table;
 
 // What an infer call hands back beside the buffer: the report's length, or a refusal's number and row, or for 24 the parameter; 0 for what
@@ -66,62 +69,27 @@ fn place(table: Table, buffer: &mut [u8]) -> Inferred
     requires { ⌜ Ready table × Closed (lists table) × (6280 ≤ length (now buffer)) ⌝ }
     ensures { λ r. ⌜ Infers (lists table) (now (buffer .entry)) (outcome r (now (buffer .exit))) ⌝ }
 {
-    let mut variables = [0u8; 64];
-    let mut param_words = [0u8; 64];
-    let mut param_shapes = [0u8; 64];
-    let mut row_words = [0u8; 256];
-    let mut row_shapes = [0u8; 256];
-    match solve(
-        table,
-        &mut variables,
-        &mut param_words,
-        &mut param_shapes,
-        &mut row_words,
-        &mut row_shapes,
-    ) {
-        Answer::Placed => report_above_floors(
-            table,
-            buffer,
-            &variables,
-            &param_words,
-            &param_shapes,
-            &row_words,
-            &row_shapes,
-        ),
+    let solved = solve(table);
+    let answer = solved.answer;
+    let codes = solved.codes;
+    match answer {
+        Answer::Placed => report_above_floors(table, buffer, codes),
         Answer::Refused(number, row) => refusal(number, row),
     }
 }
 
 // The report of a program that has typings, where its words meet every floor; or the lowest parameter that misses its own.
-fn report_above_floors(
-    table: Table,
-    buffer: &mut [u8],
-    variables: &[u8; 64],
-    param_words: &[u8; 64],
-    param_shapes: &[u8; 64],
-    row_words: &[u8; 256],
-    row_shapes: &[u8; 256],
-) -> Inferred
-    requires { ⌜ Ready table × Closed (lists table) × (6280 ≤ length (now buffer)) × Solves (lists table) (codesOf (now variables) (now «param_words») (now «param_shapes») (now «row_words») (now «row_shapes»)) Answer.Placed ⌝ }
+fn report_above_floors(table: Table, buffer: &mut [u8], codes: Codes) -> Inferred
+    requires { ⌜ Ready table × Closed (lists table) × (6280 ≤ length (now buffer)) × Solves (lists table) codes Answer.Placed ⌝ }
     ensures { λ r. ⌜ Infers (lists table) (now (buffer .entry)) (outcome r (now (buffer .exit))) ⌝ }
 {
     let rule = table.schemes.rule;
-    let names = table.schemes.names;
     let params = table.params;
-    match floors::lowest_missed(&rule, params, table.parameters(), param_words) {
+    let words = codes.paramwords;
+    match floors::lowest_missed(&rule, params, table.parameters(), &words) {
         Missed::At(p) => refusal(24, p),
         Missed::Nowhere => {
-            let size = report::write(
-                buffer,
-                schemes::front(&names, table.schemes.size),
-                variables,
-                param_words,
-                param_shapes,
-                row_words,
-                row_shapes,
-                table.parameters(),
-                table.term_rows(),
-            );
+            let size = write(table, buffer, codes);
             Inferred {
                 number: 0,
                 row: 0,
@@ -131,34 +99,37 @@ fn report_above_floors(
     }
 }
 
+// Writes the report of the codes, and returns its length.
+fn write(table: Table, buffer: &mut [u8], codes: Codes) -> usize
+    requires { ⌜ Ready table × (6280 ≤ length (now buffer)) ⌝ }
+    ensures { λ r. ⌜ Written (lists table .schemes .names) codes (length (lists table .params)) (length (lists table .terms)) (now (buffer .entry)) (now (buffer .exit)) r ⌝ }
+{
+    let names = table.schemes.names;
+    report::write(
+        buffer,
+        schemes::front(&names, table.schemes.size),
+        codes,
+        table.parameters(),
+        table.term_rows(),
+    )
+}
+
 // The codes of every slot of a table's program, or the least row that leaves no typing.
-pub fn solve(
-    table: Table,
-    variables: &mut [u8; 64],
-    param_words: &mut [u8; 64],
-    param_shapes: &mut [u8; 64],
-    row_words: &mut [u8; 256],
-    row_shapes: &mut [u8; 256],
-) -> Answer
+pub fn solve(table: Table) -> Solved
     requires { ⌜ Ready table × (0 < length (lists table .terms)) ⌝ }
-    ensures { λ r. ⌜ Solves (lists table) (codesOf (now (variables .exit)) (now («param_words» .exit)) (now («param_shapes» .exit)) (now («row_words» .exit)) (now («row_shapes» .exit))) r ⌝ }
+    ensures { λ r. ⌜ Solves (lists table) (r .codes) (r .answer) ⌝ }
 {
     let rule = table.schemes.rule;
     let types = table.types;
     let params = table.params;
     let terms = table.terms;
-    solver::solve(
-        &rule,
+    let program = Program {
         types,
-        table.type_rows(),
         params,
-        table.parameters(),
         terms,
-        table.term_rows(),
-        variables,
-        param_words,
-        param_shapes,
-        row_words,
-        row_shapes,
-    )
+        typecount: table.type_rows(),
+        paramcount: table.parameters(),
+        termcount: table.term_rows(),
+    };
+    solver::solve(&rule, program)
 }

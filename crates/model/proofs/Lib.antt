@@ -18,3 +18,4 @@ pub mod LongFiles
 pub mod LongLines
 pub mod Examples
 pub mod Files
+pub mod Programs

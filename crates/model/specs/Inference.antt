@@ -54,10 +54,10 @@ Listed S m (param p) = p < length (m .params)
 Listed S m (row i) = i < length (m .terms)
 
 -- What an assignment gives a slot. A variable has no type: INT stands for it, and no shape of it is reported.
-abbrev pub qualifierOf : {Q : Type 0} → Assignment Q → Slot → Q
-qualifierOf s (variable k) = s .variable k
-qualifierOf s (param p) = s .param p .qualifier
-qualifierOf s (row i) = s .row i .qualifier
+abbrev pub slotQualifier : {Q : Type 0} → Assignment Q → Slot → Q
+slotQualifier s (variable k) = s .variable k
+slotQualifier s (param p) = s .param p .qualifier
+slotQualifier s (row i) = s .row i .qualifier
 
 abbrev pub typeOf : {Q : Type 0} → Assignment Q → Slot → Ty Q
 typeOf s (variable k) = Ty.int
@@ -89,12 +89,12 @@ pub record GreatestTyping (S : Schemes) (m : Machine) (word : Slot → ℕ) (sha
   -- each word is one of the qualifiers' words
   pub worded : (x : Slot) → Listed S m x → word x < S .words
   -- "every typing has there one at or below it"
-  pub greatest : (s : Assignment (S .Q)) → Types S m s → (x : Slot) → Listed S m x → S .AtOrBelow (qualifierOf s x) (S .word (word x))
+  pub greatest : (s : Assignment (S .Q)) → Types S m s → (x : Slot) → Listed S m x → S .AtOrBelow (slotQualifier s x) (S .word (word x))
   pub shaped : (x : Slot) → Listed S m x → ShapeSays S m x (shape x)
   -- "The words with ANY taken as INT complete to a typing."
   pub together : (s : Assignment (S .Q))
       × Types S m s
-      × ((x : Slot) → Listed S m x → qualifierOf s x ≡ S .word (word x))
+      × ((x : Slot) → Listed S m x → slotQualifier s x ≡ S .word (word x))
       × ((x : Slot) → Listed S m x → shape x ≡ Shape.any → IsInt (typeOf s x))
 
 -- Document 02, a): a scheme of parameter p is "at or above the floor". Floors are no part of a typing.

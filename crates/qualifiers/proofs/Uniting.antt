@@ -9,18 +9,14 @@ use mathlib.Core.Path.{_≡_, refl, sym, ap, subst, _∙_}
 use lib.ListN.{getD, set}
 use lib.Seq.{set-getD, getD-set-other}
 use lib.Dec.{ltb}
+use Rattle.layout.specs.Layout.{nodes}
 use Rattle.scheme.specs.Rule.{wordsAt, topAt, meetAt, under, Lattice}
 use Rattle.scheme.proofs.Rule.{meet-is-left}
-use Rattle.forest.specs.Forest.{up, Forest, Linked, Reach, here, further, Found, Rooted, Hung}
-use Rattle.forest.specs.Pairs.{PairsBelow}
-use Rattle.forest.proofs.Links.{by-eq, up-same, up-other, linked-into, linked-outof, linked-joins, reach-same, shorter-into, shorter-outof}
-use Rattle.qualifiers.specs.Classes.{boundAt, Classes, Untouched, Roots, United, Class, UnitedAll}
+use Rattle.forest.specs.Forest.{up, Forest, Linked, Reach, here, further, Found, Rooted, Hung, TwoRoots}
+use Rattle.forest.specs.Pairs.{PairsBelow, notesOf}
+use Rattle.forest.proofs.Links.{by-eq, up-same, up-other, linked-into, linked-outof, linked-joins, root-reaches, reach-same, shorter-into, shorter-outof}
+use Rattle.qualifiers.specs.Classes.{boundAt, Classes, Untouched, United, Class, UnitedAll, qualifiersOf}
 use Rattle.qualifiers.proofs.Bounds.{sinks-along, put-under-keeps, put-under-stays, lowered, lowered-stays}
-
--- From a root no other node is reached.
-root-reaches : {p : List ℕ} {x r : ℕ} → up p x ≡ x → Reach p x r → r ≡ x
-root-reaches root here = refl
-root-reaches root (further reach node) = cc (root-reaches root reach)
 
 -- A node put directly under its root: roots, bounds and readings stay.
 pub record Shortened (R p p′ : List ℕ) (x r : ℕ) : Type 0 where
@@ -28,11 +24,11 @@ pub record Shortened (R p p′ : List ℕ) (x r : ℕ) : Type 0 where
   pub under : up p′ x ≡ r
   pub root : up p′ r ≡ r
   pub roots : (z : ℕ) → up p z ≡ z → up p′ z ≡ z
-  pub classes : (b : List ℕ) → Classes R p b → Classes R p′ b
+  pub classes : (b : List ℕ) → Classes R (qualifiersOf p b) → Classes R (qualifiersOf p′ b)
   pub into : (v : ℕ → ℕ) → Linked p v → Linked p′ v
   pub outof : (v : ℕ → ℕ) → Linked p′ v → Linked p v
 
-found-shortened : {R p : List ℕ} → Forest p → (x r : ℕ) → x < 329 → Found p x r → Shortened R p (set p x r) x r
+found-shortened : {R p : List ℕ} → Forest p → (x r : ℕ) → x < nodes → Found p x r → Shortened R p (set p x r) x r
 found-shortened {R} {p} f x r node found =
     let stays : (z : ℕ) → up p z ≡ z → up (set p x r) z ≡ z =
     λ z root. by-eq z x (λ e. cc (up-same f x r node, root-reaches {x = x} {r = r} (cc) (found .reached))) (λ n. up-other f x r node z n ∙ root) in
@@ -46,12 +42,12 @@ found-shortened {R} {p} f x r node found =
       outof = shorter-outof f node found;
     }
 
-pub shortened : {R p p′ b : List ℕ} {x r : ℕ} → Classes R p b → x < 329 → Rooted p p′ x r → Shortened R p p′ x r
+pub shortened : {R p p′ b : List ℕ} {x r : ℕ} → Classes R (qualifiersOf p b) → x < nodes → Rooted p p′ x r → Shortened R p p′ x r
 shortened {R} {p} {x = x} {r} k node rooted = subst (λ (l : List ℕ). Shortened R p l x r) (sym (rooted .shorter)) (found-shortened (k .forest) x r node (rooted .found))
 
-module _ {R p b : List ℕ} (k : Classes R p b) (low high : ℕ) (roots : Roots p low high) where
+module _ {R p b : List ℕ} (k : Classes R (qualifiersOf p b)) (low high : ℕ) (roots : TwoRoots p low high) where
   -- Two constants have their own codes in every reading.
-  clashing : high < wordsAt R → United R p b p b low high false
+  clashing : high < wordsAt R → United R (qualifiersOf p b) (qualifiersOf p b) low high false
   clashing constant =
       record {
         classes = k;
@@ -60,10 +56,10 @@ module _ {R p b : List ℕ} (k : Classes R p b) (low high : ℕ) (roots : Roots 
         bounds-into = λ e. absurd (false≢true e);
         bounds-outof = λ e. absurd (false≢true e);
         clash = λ _ v own linked e. omega (arith, own low (omega (arith, roots .less)), own high constant, roots .less);
-        stays = λ m _ _ u. u;
+        stays = λ m _ u. u;
       }
 
-  joined : wordsAt R ≤ high → United R p b (set p high low) (set b low (meetAt R (boundAt b low) (boundAt b high))) low high true
+  joined : wordsAt R ≤ high → United R (qualifiersOf p b) (qualifiersOf (set p high low) (set b low (meetAt R (boundAt b low) (boundAt b high)))) low high true
   joined free =
       let l = lowered (k .lattice) b (k .size) (k .codes) low (boundAt b high) (omega (arith, roots .less, roots .node)) (k .codes high (roots .node)) in
       let joins : (v : ℕ → ℕ) → Linked (set p high low) v → v high ≡ v low = linked-joins (k .forest) high low (roots .node) in
@@ -78,37 +74,37 @@ module _ {R p b : List ℕ} (k : Classes R p b) (low high : ℕ) (roots : Roots 
         bounds-into = λ _ v linked bounded. l .into v bounded (cc (bounded high (roots .node), joins v linked));
         bounds-outof = λ _ v linked bounded. l .outof v bounded .0;
         clash = λ e. absurd (true≢false e);
-        stays = λ m low-below high-below u. put-under-stays (k .forest) high low (roots .node) high-below (lowered-stays l low-below u);
+        stays = λ m below u. put-under-stays (k .forest) high low (roots .node) (below .1) (lowered-stays l (below .0) u);
       }
 
   -- RAND bounds nothing, so the smaller root keeps its bound.
-  joined-rand : wordsAt R ≤ high → boundAt b high ≡ topAt R → United R p b (set p high low) b low high true
+  joined-rand : wordsAt R ≤ high → boundAt b high ≡ topAt R → United R (qualifiersOf p b) (qualifiersOf (set p high low) b) low high true
   joined-rand free rand =
       let code = k .codes low (omega (arith, roots .less, roots .node)) in
       let same : meetAt R (boundAt b low) (boundAt b high) ≡ boundAt b low =
       ap (meetAt R (boundAt b low)) rand ∙ eqb-true _ _ (meet-is-left (k .lattice) (boundAt b low) (topAt R) code (k .lattice .top-code) ∙ k .lattice .top-greatest (boundAt b low) code) in
-      subst (λ (b′ : List ℕ). United R p b (set p high low) b′ low high true) (ap (set b low) same ∙ set-getD b low 0) (joined free)
+      subst (λ (b′ : List ℕ). United R (qualifiersOf p b) (qualifiersOf (set p high low) b′) low high true) (ap (set b low) same ∙ set-getD b low 0) (joined free)
 
 -- What `join` and `unite` answer: the root of the class that they made, or no node.
 abbrev Made : (R p b p′ b′ : List ℕ) (x y at r : ℕ) → Type 0
-Made R p b p′ b′ x y at r = United R p b p′ b′ x y (ltb r 329) × Class p′ b b′ at r
+Made R p b p′ b′ x y at r = United R (qualifiersOf p b) (qualifiersOf p′ b′) x y (ltb r nodes) × Class b (qualifiersOf p′ b′) at r
 
-made-none : {R p b p′ : List ℕ} {x y : ℕ} (at : ℕ) → United R p b p′ b x y false → Made R p b p′ b x y at 329
+made-none : {R p b p′ : List ℕ} {x y : ℕ} (at : ℕ) → United R (qualifiersOf p b) (qualifiersOf p′ b) x y false → Made R p b p′ b x y at nodes
 made-none at u = (
   u,
   record { number = omega arith; root = λ h. absurd (omega arith); holds = λ h. absurd (omega arith); low = λ h. absurd (omega arith); others = λ z _. refl },
 )
 
-made-root : {R p b p′ b′ : List ℕ} {x y at r : ℕ} → r < 329 → United R p b p′ b′ x y true → up p′ r ≡ r → ((v : ℕ → ℕ) → Linked p′ v → v r ≡ v at) → r ≤ at →
+made-root : {R p b p′ b′ : List ℕ} {x y at r : ℕ} → r < nodes → United R (qualifiersOf p b) (qualifiersOf p′ b′) x y true → up p′ r ≡ r → ((v : ℕ → ℕ) → Linked p′ v → v r ≡ v at) → r ≤ at →
     ((z : ℕ) → (z ≡ r → ⊥) → boundAt b′ z ≡ boundAt b z) → Made R p b p′ b′ x y at r
 made-root {r = r} node u root holds low others =
-    (rw (lt-ltb r 329 node) u, record { number = omega arith; root = λ _. root; holds = λ _. holds; low = λ _. low; others = others })
+    (rw (lt-ltb r nodes node) u, record { number = omega arith; root = λ _. root; holds = λ _. holds; low = λ _. low; others = others })
 
-module _ {R p b : List ℕ} (k : Classes R p b) (low high : ℕ) (roots : Roots p low high) where
-  pub join-clash : high < wordsAt R → Made R p b p b low high low 329
+module _ {R p b : List ℕ} (k : Classes R (qualifiersOf p b)) (low high : ℕ) (roots : TwoRoots p low high) where
+  pub join-clash : high < wordsAt R → Made R p b p b low high low nodes
   join-clash constant = made-none low (clashing k low high roots constant)
 
-  put-low : {b′ : List ℕ} → United R p b (set p high low) b′ low high true → ((z : ℕ) → (z ≡ low → ⊥) → boundAt b′ z ≡ boundAt b z) → Made R p b (set p high low) b′ low high low low
+  put-low : {b′ : List ℕ} → United R (qualifiersOf p b) (qualifiersOf (set p high low) b′) low high true → ((z : ℕ) → (z ≡ low → ⊥) → boundAt b′ z ≡ boundAt b z) → Made R p b (set p high low) b′ low high low low
   put-low u others =
       made-root (omega (arith, roots .less, roots .node)) u
       (up-other (k .forest) high low (roots .node) low (λ e. omega (arith, roots .less)) ∙ roots .low-root)
@@ -120,7 +116,7 @@ module _ {R p b : List ℕ} (k : Classes R p b) (low high : ℕ) (roots : Roots 
   pub join-rand : wordsAt R ≤ high → boundAt b high ≡ topAt R → Made R p b (set p high low) b low high low low
   join-rand free rand = put-low (joined-rand k low high roots free rand) (λ z _. refl)
 
-united-turned : {R p b p′ b′ : List ℕ} {x y : ℕ} {r : Bool} → United R p b p′ b′ y x r → United R p b p′ b′ x y r
+united-turned : {R p b p′ b′ : List ℕ} {x y : ℕ} {r : Bool} → United R (qualifiersOf p b) (qualifiersOf p′ b′) y x r → United R (qualifiersOf p b) (qualifiersOf p′ b′) x y r
 united-turned u =
     record {
       classes = u .classes;
@@ -129,18 +125,18 @@ united-turned u =
       bounds-into = u .bounds-into;
       bounds-outof = u .bounds-outof;
       clash = λ two v own linked e. u .clash two v own linked (sym e);
-      stays = λ m x-below y-below. u .stays m y-below x-below;
+      stays = λ m below. u .stays m (below .1, below .0);
     }
 
 -- Both nodes were put under their roots, which the readings do not tell from them.
-module _ {R p p₁ p₂ b : List ℕ} {x y a c : ℕ} (asked : Classes R p b × ((x < 329) × (y < 329))) (one : Rooted p p₁ x a) (two : Rooted p₁ p₂ y c) where
+module _ {R p p₁ p₂ b : List ℕ} {x y a c : ℕ} (asked : Classes R (qualifiersOf p b) × ((x < nodes) × (y < nodes))) (one : Rooted p p₁ x a) (two : Rooted p₁ p₂ y c) where
   first : Shortened R p p₁ x a
   first = shortened (asked .0) (asked .1 .0) one
 
   second : Shortened R p₁ p₂ y c
   second = shortened (first .classes b (asked .0)) (asked .1 .1) two
 
-  kept : Classes R p₂ b
+  kept : Classes R (qualifiersOf p₂ b)
   kept = second .classes b (first .classes b (asked .0))
 
   into-both : (v : ℕ → ℕ) → Linked p v → Linked p₂ v
@@ -149,7 +145,7 @@ module _ {R p p₁ p₂ b : List ℕ} {x y a c : ℕ} (asked : Classes R p b × 
   outof-both : (v : ℕ → ℕ) → Linked p₂ v → Linked p v
   outof-both v linked = first .outof v (second .outof v linked)
 
-  stays-both : {m : ℕ} → Untouched R m p b → Untouched R m p₂ b
+  stays-both : {m : ℕ} → Untouched R m (qualifiersOf p b) → Untouched R m (qualifiersOf p₂ b)
   stays-both u = record { own = λ z from h. second .roots z (first .roots z (u .own z from h)); unbound = u .unbound }
 
   same-x : (v : ℕ → ℕ) → Linked p₂ v → v x ≡ v a
@@ -159,15 +155,15 @@ module _ {R p p₁ p₂ b : List ℕ} {x y a c : ℕ} (asked : Classes R p b × 
   same-y v linked = linked y (asked .1 .1) ∙ ap v (second .under)
 
   -- What `join` asks, by which root is the smaller.
-  pub roots-rising : a < c → Classes R p₂ b × Roots p₂ a c
+  pub roots-rising : a < c → Classes R (qualifiersOf p₂ b) × TwoRoots p₂ a c
   roots-rising less =
       (kept, record { less = less; node = omega (arith, second .low, asked .1); low-root = second .roots a (first .root); high-root = second .root })
 
-  pub roots-falling : c < a → Classes R p₂ b × Roots p₂ c a
+  pub roots-falling : c < a → Classes R (qualifiersOf p₂ b) × TwoRoots p₂ c a
   roots-falling less =
       (kept, record { less = less; node = omega (arith, first .low, asked .1); low-root = second .root; high-root = second .roots a (first .root) })
 
-  united-already : a ≡ c → United R p b p₂ b x y true
+  united-already : a ≡ c → United R (qualifiersOf p b) (qualifiersOf p₂ b) x y true
   united-already e =
       record {
         classes = kept;
@@ -176,10 +172,10 @@ module _ {R p p₁ p₂ b : List ℕ} {x y a c : ℕ} (asked : Classes R p b × 
         bounds-into = λ _ v linked bounded. bounded;
         bounds-outof = λ _ v linked bounded. bounded;
         clash = λ e. absurd (true≢false e);
-        stays = λ m _ _. stays-both;
+        stays = λ m _. stays-both;
       }
 
-  united-roots : {p′ b′ : List ℕ} {r : Bool} → United R p₂ b p′ b′ a c r → United R p b p′ b′ x y r
+  united-roots : {p′ b′ : List ℕ} {r : Bool} → United R (qualifiersOf p₂ b) (qualifiersOf p′ b′) a c r → United R (qualifiersOf p b) (qualifiersOf p′ b′) x y r
   united-roots u =
       let up-to : (v : ℕ → ℕ) → Linked p₂ v → v x ≡ v y → v a ≡ v c = λ v linked e. sym (same-x v linked) ∙ e ∙ same-y v linked in
       record {
@@ -191,16 +187,16 @@ module _ {R p p₁ p₂ b : List ℕ} {x y a c : ℕ} (asked : Classes R p b × 
         bounds-into = u .bounds-into;
         bounds-outof = u .bounds-outof;
         clash = λ two v own linked e. let after = into-both v linked in u .clash two v own after (up-to v after e);
-        stays = λ m x-below y-below untouched. u .stays m (omega (arith, first .low)) (omega (arith, second .low)) (stays-both untouched);
+        stays = λ m below untouched. u .stays m (omega (arith, first .low, below), omega (arith, second .low, below)) (stays-both untouched);
       }
 
   -- The class's root is that of y as well.
-  class-up : {p′ b′ : List ℕ} {at r : ℕ} → at ≤ c → (ltb r 329 ≡ true → (v : ℕ → ℕ) → Linked p′ v → (v at ≡ v y)) → Class p′ b b′ at r → Class p′ b b′ y r
+  class-up : {p′ b′ : List ℕ} {at r : ℕ} → at ≤ c → (ltb r nodes ≡ true → (v : ℕ → ℕ) → Linked p′ v → (v at ≡ v y)) → Class b (qualifiersOf p′ b′) at r → Class b (qualifiersOf p′ b′) y r
   class-up {r = r} low same found =
       record {
         number = found .number;
         root = found .root;
-        holds = λ node v linked. found .holds node v linked ∙ same (lt-ltb r 329 node) v linked;
+        holds = λ node v linked. found .holds node v linked ∙ same (lt-ltb r nodes node) v linked;
         low = λ node. omega (arith, found .low node, second .low);
         others = found .others;
       }
@@ -223,14 +219,14 @@ module _ {R p p₁ p₂ b : List ℕ} {x y a c : ℕ} (asked : Classes R p b × 
   )
 
 -- The test of the answer.
-pub no-class : {r : ℕ} → r ≡ 329 → ltb r 329 ≡ false
-no-class {r} e = le-ltb r 329 (omega arith)
+pub no-class : {r : ℕ} → r ≡ nodes → ltb r nodes ≡ false
+no-class {r} e = le-ltb r nodes (omega arith)
 
-pub class-node : {p′ b b′ : List ℕ} {y r : ℕ} → Class p′ b b′ y r → (r ≡ 329 → ⊥) → r < 329
+pub class-node : {p′ b b′ : List ℕ} {y r : ℕ} → Class b (qualifiersOf p′ b′) y r → (r ≡ nodes → ⊥) → r < nodes
 class-node found n = omega (arith, found .number)
 
 -- A node made one with another's root is made one with the other.
-united-below : {R p b p′ b′ : List ℕ} {x y r : ℕ} → Found p y r → United R p b p′ b′ x r true → United R p b p′ b′ x y true
+united-below : {R p b p′ b′ : List ℕ} {x y r : ℕ} → Found p y r → United R (qualifiersOf p b) (qualifiersOf p′ b′) x r true → United R (qualifiersOf p b) (qualifiersOf p′ b′) x y true
 united-below found u =
     record {
       classes = u .classes;
@@ -239,13 +235,13 @@ united-below found u =
       bounds-into = u .bounds-into;
       bounds-outof = u .bounds-outof;
       clash = λ e. absurd (true≢false e);
-      stays = λ m x-below y-below. u .stays m x-below (omega (arith, found .low));
+      stays = λ m below. u .stays m (below .0, omega (arith, found .low, below));
     }
 
 -- A root that is put under itself stays a class of its own.
-united-self : {R p p′ b : List ℕ} {x : ℕ} → Classes R p b → up p x ≡ x → Hung p p′ x x → United R p b p′ b x x true
+united-self : {R p p′ b : List ℕ} {x : ℕ} → Classes R (qualifiersOf p b) → up p x ≡ x → Hung p p′ x x → United R (qualifiersOf p b) (qualifiersOf p′ b) x x true
 united-self {R} {p} {b = b} {x} k root hung =
-    subst (λ (l : List ℕ). United R p b l b x x true)
+    subst (λ (l : List ℕ). United R (qualifiersOf p b) (qualifiersOf l b) x x true)
     (sym (hung .under ∙ ap (set p x) (root-reaches root (hung .found .reached) ∙ sym root) ∙ set-getD p x 0))
     (record {
       classes = k;
@@ -254,29 +250,29 @@ united-self {R} {p} {b = b} {x} k root hung =
       bounds-into = λ _ v linked bounded. bounded;
       bounds-outof = λ _ v linked bounded. bounded;
       clash = λ e. absurd (true≢false e);
-      stays = λ m _ _ untouched. untouched;
+      stays = λ m _ untouched. untouched;
     })
 
-module _ {R p p′ b : List ℕ} {x y : ℕ} (k : Classes R p b) (free : wordsAt R ≤ x) (node : x < 329) (root : up p x ≡ x) (unbound : boundAt b x ≡ topAt R) where
-  new-above : y < x → Hung p p′ x y → United R p b p′ b x y true
+module _ {R p p′ b : List ℕ} {x y : ℕ} (k : Classes R (qualifiersOf p b)) (free : wordsAt R ≤ x) (node : x < nodes) (root : up p x ≡ x) (unbound : boundAt b x ≡ topAt R) where
+  new-above : y < x → Hung p p′ x y → United R (qualifiersOf p b) (qualifiersOf p′ b) x y true
   new-above less hung =
-      let roots : Roots p (hung .root) x =
+      let roots : TwoRoots p (hung .root) x =
       record { less = omega (arith, hung .found .low); node = node; low-root = hung .found .root; high-root = root } in
-      subst (λ (l : List ℕ). United R p b l b x y true) (sym (hung .under)) (united-below (hung .found) (united-turned (joined-rand k (hung .root) x roots free unbound)))
+      subst (λ (l : List ℕ). United R (qualifiersOf p b) (qualifiersOf l b) x y true) (sym (hung .under)) (united-below (hung .found) (united-turned (joined-rand k (hung .root) x roots free unbound)))
 
   -- A new node, which nothing bounds, was put under the root above a smaller one or above itself.
-  pub new-alike : y ≤ x → Hung p p′ x y → United R p b p′ b x y true
+  pub new-alike : y ≤ x → Hung p p′ x y → United R (qualifiersOf p b) (qualifiersOf p′ b) x y true
   new-alike low hung =
       by-eq y x
-      (λ e. subst (λ (z : ℕ). United R p b p′ b x z true) (sym e) (united-self k root (subst (Hung p p′ x) e hung)))
+      (λ e. subst (λ (z : ℕ). United R (qualifiersOf p b) (qualifiersOf p′ b) x z true) (sym e) (united-self k root (subst (Hung p p′ x) e hung)))
       (λ n. new-above (omega arith) hung)
 
 -- Fewer nodes are untouched.
-pub untouched-more : {R p b : List ℕ} {m n : ℕ} → m ≤ n → Untouched R m p b → Untouched R n p b
+pub untouched-more : {R p b : List ℕ} {m n : ℕ} → m ≤ n → Untouched R m (qualifiersOf p b) → Untouched R n (qualifiersOf p b)
 untouched-more more u = record { own = λ z from. u .own z (omega arith); unbound = λ z from. u .unbound z (omega arith) }
 
 -- No pair, one pair more, and a pair that clashes.
-pub all-none : {R p b left right : List ℕ} → Classes R p b → UnitedAll R p b p b left right 0 true
+pub all-none : {R p b left right : List ℕ} → Classes R (qualifiersOf p b) → UnitedAll R (qualifiersOf p b) (qualifiersOf p b) (notesOf left right) 0 true
 all-none {left} {right} k =
     record {
       classes = k;
@@ -288,15 +284,15 @@ all-none {left} {right} k =
       stays = λ m _ u. u;
     }
 
-module _ {R p b p₁ b₁ p₂ b₂ left right : List ℕ} {i : ℕ} {r : Bool} (all : UnitedAll R p b p₁ b₁ left right i true) (u : United R p₁ b₁ p₂ b₂ (getD left i 0) (getD right i 0) r) where
+module _ {R p b p₁ b₁ p₂ b₂ left right : List ℕ} {i : ℕ} {r : Bool} (all : UnitedAll R (qualifiersOf p b) (qualifiersOf p₁ b₁) (notesOf left right) i true) (u : United R (qualifiersOf p₁ b₁) (qualifiersOf p₂ b₂) (getD left i 0) (getD right i 0) r) where
   -- The pairs before i lie below m, and so does pair i.
-  stays-on : {n : ℕ} → i < n → (m : ℕ) → PairsBelow m left right n → Untouched R m p b → Untouched R m p₂ b₂
+  stays-on : {n : ℕ} → i < n → (m : ℕ) → PairsBelow m (notesOf left right) n → Untouched R m (qualifiersOf p b) → Untouched R m (qualifiersOf p₂ b₂)
   stays-on less m below untouched =
-      let before : PairsBelow m left right i =
+      let before : PairsBelow m (notesOf left right) i =
       record { left-below = λ j h. below .left-below j (omega arith); right-below = λ j h. below .right-below j (omega arith) } in
-      u .stays m (below .left-below i less) (below .right-below i less) (all .stays m before untouched)
+      u .stays m (below .left-below i less, below .right-below i less) (all .stays m before untouched)
 
-  pub all-more : r ≡ true → UnitedAll R p b p₂ b₂ left right (i + 1) true
+  pub all-more : r ≡ true → UnitedAll R (qualifiersOf p b) (qualifiersOf p₂ b₂) (notesOf left right) (i + 1) true
   all-more done =
       record {
         classes = u .classes;
@@ -311,7 +307,7 @@ module _ {R p b p₁ b₁ p₂ b₂ left right : List ℕ} {i : ℕ} {r : Bool} 
         stays = stays-on (omega arith);
       }
 
-  pub all-clash : {n : ℕ} → i < n → r ≡ false → UnitedAll R p b p₂ b₂ left right n false
+  pub all-clash : {n : ℕ} → i < n → r ≡ false → UnitedAll R (qualifiersOf p b) (qualifiersOf p₂ b₂) (notesOf left right) n false
   all-clash less two =
       record {
         classes = u .classes;

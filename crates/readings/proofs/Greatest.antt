@@ -7,6 +7,7 @@ use mathlib.Core.Path.{_≡_, refl, sym, ap, subst, _∙_}
 use lib.Dec.{ltb}
 use lib.ListN.{length}
 use borrow.Author.Tests.{lt-ltb, le-ltb}
+use Rattle.layout.specs.Layout.{rowType, rowQualifier, nodes}
 use Rattle.scheme.specs.Qualifier.{Qualifier, code, qualifier}
 use Rattle.scheme.specs.Schemes.{words, below}
 use Rattle.scheme.specs.Rule.{under, Ruled}
@@ -15,9 +16,9 @@ use Rattle.scheme.proofs.Rule.{under-same}
 use Rattle.model.specs.Machine.{Machine, paramAt}
 use Rattle.model.specs.WellFormed.{WellFormed}
 use Rattle.model.specs.Typing.{Ty, int, arrow, Assignment, Typing, meaning}
-use Rattle.model.specs.Inference.{ruling, Slot, variable, param, row, Listed, qualifierOf, typeOf, IsInt, is-int, IsArrow, is-arrow, Shape, Types, ShapeSays, GreatestTyping}
+use Rattle.model.specs.Inference.{ruling, Slot, variable, param, row, Listed, slotQualifier, typeOf, IsInt, is-int, IsArrow, is-arrow, Shape, Types, ShapeSays, GreatestTyping}
 use Rattle.model.proofs.Weaker.{mapType, mapAssignment}
-use Rattle.readings.specs.Nodes.{assignment, wordOf, shapeOf, shapesOf, Solution, Solved}
+use Rattle.readings.specs.Nodes.{assignment, nodeWord, kindShape, nodeShape, Solution, Solved}
 use Rattle.scheme.proofs.Schemes.{sound-few}
 use Rattle.readings.proofs.Numbers.{coded, coded-same}
 use Rattle.readings.proofs.Typable.{nodeType, type-node, row-type-node, nodeQualifier, code-node, row-qualifier-node}
@@ -36,7 +37,7 @@ arrow-of-map f (arrow q t q′ t′) e = is-arrow
 abbrev qualifierNode : Machine → Slot → ℕ
 qualifierNode m (variable k) = k + words (m .schemes)
 qualifierNode m (param p) = paramAt m p .qualifier
-qualifierNode m (row i) = i + 73
+qualifierNode m (row i) = rowQualifier i
 
 module _ (m : Machine) (wf : WellFormed m) (R : List ℕ) (rules : Ruled (m .schemes) R) (s : Assignment (ruling m .Q)) (typing : Types (ruling m) m s) where
   -- A typing is a solution.
@@ -54,7 +55,7 @@ module _ (m : Machine) (wf : WellFormed m) (R : List ℕ) (rules : Ruled (m .sch
   map-code false x y = refl
 
   -- What the typing gives a slot stands at the slot's node.
-  slot-qualifier : (x : Slot) → Listed (ruling m) m x → wholeNodes m s (qualifierNode m x) ≡ code (qualifierOf s x)
+  slot-qualifier : (x : Slot) → Listed (ruling m) m x → wholeNodes m s (qualifierNode m x) ≡ code (slotQualifier s x)
   slot-qualifier (variable k) l =
       let e : k + words (m .schemes) - words (m .schemes) ≡ k = omega arith in
       rw (le-ltb (k + words (m .schemes)) (words (m .schemes)) (omega arith), lt-ltb (k + words (m .schemes)) 73 (omega (arith, l .0, sound-few (wf .schemes-sound))), e)
@@ -68,12 +69,12 @@ module _ (m : Machine) (wf : WellFormed m) (R : List ℕ) (rules : Ruled (m .sch
   param-type p l =
       type-node (mapAssignment code s) _ (omega (arith, wf .params-stand p l .1, wf .types-fit)) ∙ ap (mapType code) (sym (typing .params-agree p l .1))
 
-  row-type : (i : ℕ) → wholeTypes m s (i + 64) ≡ mapType code (s .row i .type)
+  row-type : (i : ℕ) → wholeTypes m s (rowType i) ≡ mapType code (s .row i .type)
   row-type i = row-type-node (mapAssignment code s) i
 
 -- A shape is ANY only where the kind is unknown.
-any-unknown : (kind : ℕ) → shapeOf kind ≡ Shape.any → kind ≡ 0
-unfolding shapeOf
+any-unknown : (kind : ℕ) → kindShape kind ≡ Shape.any → kind ≡ 0
+unfolding kindShape
 any-unknown zero e = refl
 any-unknown (suc zero) e = cc
 any-unknown (suc (suc d)) e = cc
@@ -89,33 +90,33 @@ module _ (m : Machine) (wf : WellFormed m) (R : List ℕ) (rules : Ruled (m .sch
       let solution = solved .choice leaf .1 in
       whole-typing m wf (length (m .terms)) R rules _ w (solution .constant) (solution .meets) (solution .fits)
 
-  in-words : (x : ℕ) → x < 329 → w x < words (m .schemes)
+  in-words : (x : ℕ) → x < nodes → w x < words (m .schemes)
   in-words = solved .choice int .1 .coded
 
-  in-range : (x : Slot) → Listed (ruling m) m x → qualifierNode m x < 329
+  in-range : (x : Slot) → Listed (ruling m) m x → qualifierNode m x < nodes
   in-range (variable k) l = omega (arith, l .0, sound-few (wf .schemes-sound))
   in-range (param p) l = omega (arith, wf .params-stand p l .0, sound-few (wf .schemes-sound))
   in-range (row i) l = omega (arith, wf .terms-fit)
 
-  word-node : (x : Slot) → wordOf m w x ≡ w (qualifierNode m x)
+  word-node : (x : Slot) → nodeWord m w x ≡ w (qualifierNode m x)
   word-node (variable k) = refl
   word-node (param p) = refl
   word-node (row i) = refl
 
-  greatest : (s : Assignment (ruling m .Q)) → Types (ruling m) m s → (x : Slot) → Listed (ruling m) m x → below (m .schemes) (code (qualifierOf s x)) (code (named (wordOf m w x))) ≡ true
+  greatest : (s : Assignment (ruling m .Q)) → Types (ruling m) m s → (x : Slot) → Listed (ruling m) m x → below (m .schemes) (code (slotQualifier s x)) (code (named (nodeWord m w x))) ≡ true
   greatest s typing x l =
       let at-node = solved .above _ _ (solution m wf R rules s typing) (qualifierNode m x) (in-range x l) in
       let word : w (qualifierNode m x) < words (m .schemes) = in-words _ (in-range x l) in
-      let same : under R (code (qualifierOf s x)) (w (qualifierNode m x)) ≡ true = rw (slot-qualifier m wf R rules s typing x l) at at-node in
+      let same : under R (code (slotQualifier s x)) (w (qualifierNode m x)) ≡ true = rw (slot-qualifier m wf R rules s typing x l) at at-node in
       rw (word-node x, coded-same (m .schemes) (w (qualifierNode m x)) word)
-      (sym (under-same (wf .schemes-sound) rules _ _ (code-below (qualifierOf s x)) word) ∙ same)
+      (sym (under-same (wf .schemes-sound) rules _ _ (code-below (slotQualifier s x)) word) ∙ same)
 
   -- The shape of a node whose type a typing has, by its kind.
-  shape-says : (x : Slot) (node : ℕ) → node < 329 →
+  shape-says : (x : Slot) (node : ℕ) → node < nodes →
       ((s : Assignment (ruling m .Q)) → Types (ruling m) m s → wholeTypes m s node ≡ mapType code (typeOf s x)) →
       ((t : ℕ → Ty ℕ) → typeOf (mapAssignment named (assignment m t w)) x ≡ mapType named (t node)) →
-      (k : ℕ) → kind node ≡ k → ShapeSays (ruling m) m x (shapeOf k)
-  unfolding shapeOf
+      (k : ℕ) → kind node ≡ k → ShapeSays (ruling m) m x (kindShape k)
+  unfolding kindShape
   shape-says x node h same given zero e = (
     (_, typed int, subst IsInt (sym (given (solved .choice int .0) ∙ ap (mapType named) (solved .choice int .2 node h e))) is-int),
     (_, typed (arrow 0 int 0 int), subst IsArrow (sym (given (solved .choice (arrow 0 int 0 int) .0) ∙ ap (mapType named) (solved .choice (arrow 0 int 0 int) .2 node h e))) is-arrow),
@@ -126,24 +127,24 @@ module _ (m : Machine) (wf : WellFormed m) (R : List ℕ) (rules : Ruled (m .sch
       let is = solved .arrows _ _ (solution m wf R rules s typing) node h (omega arith) in
       arrow-of-map code (typeOf s x) (sym (same s typing) ∙ is .4)
 
-  shaped : (x : Slot) → Listed (ruling m) m x → ShapeSays (ruling m) m x (shapesOf m kind x)
+  shaped : (x : Slot) → Listed (ruling m) m x → ShapeSays (ruling m) m x (nodeShape m kind x)
   shaped (variable k) l = λ s typing. is-int
   shaped (param p) l =
       shape-says (param p) (paramAt m p .typerow) (omega (arith, wf .params-stand p l .1, wf .types-fit)) (λ s typing. param-type m wf R rules s typing p l) (λ t. refl) _ refl
-  shaped (row i) l = shape-says (row i) (i + 64) (omega (arith, wf .terms-fit)) (λ s typing. row-type m wf R rules s typing i) (λ t. refl) _ refl
+  shaped (row i) l = shape-says (row i) (rowType i) (omega (arith, wf .terms-fit)) (λ s typing. row-type m wf R rules s typing i) (λ t. refl) _ refl
 
-  attained : (x : Slot) → qualifierOf (mapAssignment named (assignment m (solved .choice int .0) w)) x ≡ named (wordOf m w x)
+  attained : (x : Slot) → slotQualifier (mapAssignment named (assignment m (solved .choice int .0) w)) x ≡ named (nodeWord m w x)
   attained (variable k) = refl
   attained (param p) = refl
   attained (row i) = refl
 
-  any-is-int : (x : Slot) → Listed (ruling m) m x → shapesOf m kind x ≡ Shape.any → IsInt (typeOf (mapAssignment named (assignment m (solved .choice int .0) w)) x)
+  any-is-int : (x : Slot) → Listed (ruling m) m x → nodeShape m kind x ≡ Shape.any → IsInt (typeOf (mapAssignment named (assignment m (solved .choice int .0) w)) x)
   any-is-int (variable k) l e = is-int
   any-is-int (param p) l e =
       subst IsInt (sym (ap (mapType named) (solved .choice int .2 _ (omega (arith, wf .params-stand p l .1, wf .types-fit)) (any-unknown _ e)))) is-int
-  any-is-int (row i) l e = subst IsInt (sym (ap (mapType named) (solved .choice int .2 (i + 64) (omega (arith, wf .terms-fit)) (any-unknown _ e)))) is-int
+  any-is-int (row i) l e = subst IsInt (sym (ap (mapType named) (solved .choice int .2 (rowType i) (omega (arith, wf .terms-fit)) (any-unknown _ e)))) is-int
 
-  pub solved-greatest : GreatestTyping (ruling m) m (wordOf m w) (shapesOf m kind)
+  pub solved-greatest : GreatestTyping (ruling m) m (nodeWord m w) (nodeShape m kind)
   solved-greatest =
       record {
         worded = λ x l. rw (word-node x) (in-words _ (in-range x l));

@@ -6,6 +6,7 @@ use mathlib.Core.Path.{_≡_, refl, sym, ap, _∙_}
 use lib.Dec.{ltb}
 use lib.ListN.{length}
 use borrow.Author.Tests.{lt-ltb}
+use Rattle.layout.specs.Layout.{rowType}
 use Rattle.model.specs.Machine.{Machine, typeAt, paramAt}
 use Rattle.model.specs.WellFormed.{WellFormed, TypeStands}
 use Rattle.model.specs.Typing.{Ty, int, arrow, Typable, TypeAgrees}
@@ -27,9 +28,9 @@ formType v t Any = int
 formType v t (Arrow q a q′ b) = arrow (v q) (t a) (v q′) (t b)
 
 -- The type of a row, where fuel is above its number.
-rowType : Machine → (ℕ → ℕ) → ℕ → ℕ → Ty ℕ
-rowType m v zero x = int
-rowType m v (suc fuel) x = formType v (rowType m v fuel) (typeAt m x)
+fuelType : Machine → (ℕ → ℕ) → ℕ → ℕ → Ty ℕ
+fuelType m v zero x = int
+fuelType m v (suc fuel) x = formType v (fuelType m v fuel) (typeAt m x)
 
 form-same : (w : ℕ) (v : ℕ → ℕ) (t t′ : ℕ → Ty ℕ) (x : ℕ) (form : TypeForm) → TypeStands w x form → ((y : ℕ) → y < x → t y ≡ t′ y) → formType v t form ≡ formType v t′ form
 unfolding formType
@@ -38,18 +39,18 @@ form-same w v t t′ x Any st e = refl
 form-same w v t t′ x (Arrow q a q′ b) st e = cc (e a (st .1), e b (st .3))
 
 module _ (m : Machine) (wf : WellFormed m) (v : ℕ → ℕ) where
-  stable : (f g x : ℕ) → x < f → x < g → x < length (m .types) → rowType m v f x ≡ rowType m v g x
-  unfolding rowType
+  stable : (f g x : ℕ) → x < f → x < g → x < length (m .types) → fuelType m v f x ≡ fuelType m v g x
+  unfolding fuelType
   stable zero g x h l in-list = let z : ⊥ = omega arith in absurd z
   stable (suc f) zero x h l in-list = let z : ⊥ = omega arith in absurd z
   stable (suc f) (suc g) x h l in-list =
-      form-same (words (m .schemes)) v (rowType m v f) (rowType m v g) x (typeAt m x) (wf .types-stand x in-list)
+      form-same (words (m .schemes)) v (fuelType m v f) (fuelType m v g) x (typeAt m x) (wf .types-stand x in-list)
       (λ y below. stable f g y (omega arith) (omega arith) (omega arith))
 
   type : ℕ → Ty ℕ
-  type x = rowType m v (suc x) x
+  type x = fuelType m v (suc x) x
 
-  agrees : (x : ℕ) (form : TypeForm) → TypeStands (words (m .schemes)) x form → x < length (m .types) → TypeAgrees (free m v) (assignment m type v) form (formType v (rowType m v x) form)
+  agrees : (x : ℕ) (form : TypeForm) → TypeStands (words (m .schemes)) x form → x < length (m .types) → TypeAgrees (free m v) (assignment m type v) form (formType v (fuelType m v x) form)
   unfolding formType type
   agrees x Int st h = refl
   agrees x Any st h = tt
@@ -57,7 +58,7 @@ module _ (m : Machine) (wf : WellFormed m) (v : ℕ → ℕ) where
       cc (meaning-node m type v q, meaning-node m type v q′, stable x (suc a) a (st .1) (omega arith) (omega (arith, st .1)), stable x (suc b) b (st .3) (omega arith) (omega (arith, st .3)))
 
   lines-meet : Meets m 0 type v
-  unfolding type rowType
+  unfolding type fuelType
   lines-meet =
       record {
         types-agree = λ x h. agrees x (typeAt m x) (wf .types-stand x h) h;

@@ -6,6 +6,8 @@ use mathlib.Core.List.{List}
 use mathlib.Core.Path.{_≡_, refl, sym, ap, subst, _∙_}
 use lib.Dec.{ltb}
 use lib.ListN.{length}
+use Rattle.layout.specs.Readings.{Constant, Coded}
+use Rattle.layout.specs.Layout.{rowQualifier}
 use Rattle.scheme.specs.Schemes.{words, below, highestOf, Sound}
 use Rattle.scheme.specs.Rule.{highestAt, under, Ruled}
 use Rattle.scheme.specs.Qualifier.{code, qualifier}
@@ -20,7 +22,7 @@ use Rattle.model.specs.declared.Term.the-variants.{Lam, App, Op, Var, Num, Enc}
 use Rattle.model.specs.Strength.{whole, unordered, erased}
 use Rattle.model.specs.Inference.{ruling}
 use Rattle.model.proofs.Weaker.{mapAssignment, weaker-rules, weaker-typing}
-use Rattle.readings.specs.Nodes.{assignment, Meets, RowFits, FitsAll, Constant, Coded}
+use Rattle.readings.specs.Nodes.{assignment, Meets, RowFits, FitsAll}
 use Rattle.readings.proofs.Numbers.{coded, coded-same, numbered, loose, blind, whole-numbered, numbered-whole, unordered-loose, loose-unordered, erased-blind, blind-erased}
 use Rattle.readings.proofs.Typable.{nodeType, nodeQualifier, word-node, row-qualifier-node, nodes-meet, typing-of-meets}
 
@@ -99,11 +101,11 @@ module _ (m : Machine) (wf : WellFormed m) (k : ℕ) where
     none-whole none (s, typing) = none _ _ (nodes-constant s) (nodes-coded s) (whole-meets s typing) (whole-fits s typing)
 
     op-fits : (v : ℕ → ℕ) (i : ℕ) (term : Term) → TermStands (words (m .schemes)) (length (m .params)) i term → RowFits R term v → (o l r : ℕ) → term ≡ Op o l r →
-        below (m .schemes) (v (l + 73)) (highestOf (m .schemes) o) ≡ true
+        below (m .schemes) (v (rowQualifier l)) (highestOf (m .schemes) o) ≡ true
     op-fits v i term st fits o l r is =
         let stands : (o < 5) × (l < i) × (r < i) = subst (λ (t : Term). TermStands (words (m .schemes)) (length (m .params)) i t) is st in
-        let bound : under R (v (l + 73)) (highestAt R o) ≡ true = subst (λ (t : Term). RowFits R t v) is fits in
-        let named : under R (v (l + 73)) (highestOf (m .schemes) o) ≡ true = rw (rules .highest-same o (stands .0)) at bound in
+        let bound : under R (v (rowQualifier l)) (highestAt R o) ≡ true = subst (λ (t : Term). RowFits R t v) is fits in
+        let named : under R (v (rowQualifier l)) (highestOf (m .schemes) o) ≡ true = rw (rules .highest-same o (stands .0)) at bound in
         sym (under-same sound rules _ _ (omega (arith, under-codes R _ _ named .0, rules .words-same)) (highest-code sound o (stands .0))) ∙ named
 
     pub whole-typing : (t : ℕ → Ty ℕ) (v : ℕ → ℕ) → Constant (words (m .schemes)) v → Meets m k t v → FitsAll R m k v →

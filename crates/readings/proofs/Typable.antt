@@ -6,6 +6,7 @@ use mathlib.Core.Path.{_≡_, refl, sym, ap, subst, _∙_}
 use lib.Dec.{ltb}
 use lib.ListN.{length}
 use borrow.Author.Tests.{lt-ltb, le-ltb, ltb-true}
+use Rattle.layout.specs.Layout.{rowType, rowQualifier}
 use Rattle.scheme.specs.Schemes.{words}
 use Rattle.scheme.specs.Operation.{keeps}
 use Rattle.model.specs.Machine.{Machine, typeAt, paramAt, termAt}
@@ -15,7 +16,7 @@ use Rattle.model.specs.declared.TypeForm.{TypeForm}
 use Rattle.model.specs.declared.TypeForm.the-variants.{Int, Any, Arrow}
 use Rattle.model.specs.declared.Term.{Term}
 use Rattle.model.specs.declared.Term.the-variants.{Lam, App, Op, Var, Num, Enc}
-use Rattle.readings.specs.Nodes.{assignment, free, Meets, RowFits, FitsAll, Constant, Coded}
+use Rattle.readings.specs.Nodes.{assignment, free, Meets, RowFits, FitsAll}
 use Rattle.readings.proofs.Rows.{meaning-node}
 use Rattle.scheme.proofs.Schemes.{sound-few}
 
@@ -30,15 +31,15 @@ module _ (s : Assignment ℕ) where
   pub type-node : (x : ℕ) → x < 64 → nodeType s x ≡ s .type x
   type-node x h = rw (lt-ltb x 64 h)
 
-  pub row-type-node : (i : ℕ) → nodeType s (i + 64) ≡ s .row i .type
-  row-type-node i = let e : i + 64 - 64 ≡ i = omega arith in rw (le-ltb (i + 64) 64 (omega arith), e)
+  pub row-type-node : (i : ℕ) → nodeType s (rowType i) ≡ s .row i .type
+  row-type-node i = let e : rowType i - 64 ≡ i = omega arith in rw (le-ltb (rowType i) 64 (omega arith), e)
 
 module _ (w : ℕ) (few : w ≤ 9) (word : ℕ → ℕ) (s : Assignment ℕ) where
   pub word-node : (c : ℕ) → c < w → nodeQualifier w word s c ≡ word c
   word-node c h = rw (lt-ltb c w h)
 
-  pub row-qualifier-node : (i : ℕ) → nodeQualifier w word s (i + 73) ≡ s .row i .qualifier
-  row-qualifier-node i = let e : i + 73 - 73 ≡ i = omega arith in rw (le-ltb (i + 73) w (omega arith), le-ltb (i + 73) 73 (omega arith), e)
+  pub row-qualifier-node : (i : ℕ) → nodeQualifier w word s (rowQualifier i) ≡ s .row i .qualifier
+  row-qualifier-node i = let e : rowQualifier i - 73 ≡ i = omega arith in rw (le-ltb (rowQualifier i) w (omega arith), le-ltb (rowQualifier i) 73 (omega arith), e)
 
   -- A code means what its node has.
   pub code-node : (c : ℕ) → c < w + 64 → nodeQualifier w word s c ≡ cond (ltb c w) (word c) (s .variable (c - w))
@@ -126,7 +127,7 @@ module _ (m : Machine) (wf : WellFormed m) (word : ℕ → ℕ) (Fits : ℕ → 
   type-worded Any τ e = tt
   type-worded (Arrow q a q′ b) τ e = cc (e, meaning-worded q, meaning-worded q′)
 
-  module _ (fits : (i : ℕ) → i < k → i < length (m .terms) → (o l r : ℕ) → termAt m i ≡ Op o l r → Fits o (v (l + 73))) where
+  module _ (fits : (i : ℕ) → i < k → i < length (m .terms) → (o l r : ℕ) → termAt m i ≡ Op o l r → Fits o (v (rowQualifier l))) where
     row-worded : (i : ℕ) (term : Term) → termAt m i ≡ term → i < k → i < length (m .terms) → TermStands (words (m .schemes)) (length (m .params)) i term →
         RowMeets (free m v) (assignment m t v) term (assignment m t v .row i) → RowMeets worded (assignment m t v) term (assignment m t v .row i)
     row-worded i (Lam p b) is below in-list st h = (h .0 ∙ own 0 (omega arith), h .1)

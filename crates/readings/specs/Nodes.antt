@@ -1,5 +1,4 @@
 -- Typings as readings of numbered nodes, over numbers for qualifiers.
--- A qualifier's node is its code, up to 72; after these come the term rows'. A type's node is its type row, 0 to 63, then the term rows'.
 use Prim.Native.Nat.{ℕ, _+_, _<_, _≤_}
 use mathlib.Core.Bool.{Bool, true, false, cond}
 use mathlib.Core.Path.{_≡_}
@@ -12,6 +11,9 @@ use Rattle.model.specs.Machine.{Machine, paramAt, termAt}
 use Rattle.model.specs.Typing.{Ty, int, arrow, Rules, Assignment, Typing}
 use Rattle.model.specs.Inference.{Slot, variable, param, row, Shape}
 use Rattle.model.specs.declared.Term.{Term}
+use Rattle.layout.specs.Layout.{rowType, rowQualifier, nodes}
+use Rattle.layout.specs.Kinds.{unknown, intKind, firstArrow}
+use Rattle.layout.specs.Readings.{Constant, Coded}
 use Rattle.model.specs.declared.Term.the-variants.{Lam, App, Op, Var, Num, Enc}
 
 -- What the nodes give each slot.
@@ -21,7 +23,7 @@ assignment m t v =
       variable = λ k. v (k + words (m .schemes));
       type = t;
       param = λ p. record { qualifier = v (paramAt m p .qualifier); type = t (paramAt m p .typerow) };
-      row = λ i. record { qualifier = v (i + 73); type = t (i + 64) };
+      row = λ i. record { qualifier = v (rowQualifier i); type = t (rowType i) };
     }
 
 -- Rules in which a word means what the reading gives its node, and no operation asks for a bound.
@@ -36,7 +38,7 @@ Meets m k t v = Typing (free m v) m k (assignment m t v)
 abbrev pub RowFits : List ℕ → Term → (ℕ → ℕ) → Type 0
 RowFits R (Lam p b) v = Unit {0}
 RowFits R (App f a) v = Unit {0}
-RowFits R (Op o l r) v = under R (v (l + 73)) (highestAt R o) ≡ true
+RowFits R (Op o l r) v = under R (v (rowQualifier l)) (highestAt R o) ≡ true
 RowFits R (Var p) v = Unit {0}
 RowFits R (Num n) v = Unit {0}
 RowFits R (Enc s n) v = Unit {0}
@@ -44,26 +46,19 @@ RowFits R (Enc s n) v = Unit {0}
 abbrev pub FitsAll : List ℕ → Machine → ℕ → (ℕ → ℕ) → Type 0
 FitsAll R m k v = (i : ℕ) → i < k → i < length (m .terms) → RowFits R (termAt m i) v
 
--- Each constant has its own code; every qualifier is one of the w codes.
-abbrev pub Constant : ℕ → (ℕ → ℕ) → Type 0
-Constant w v = (c : ℕ) → c < w → v c ≡ c
-
-abbrev pub Coded : ℕ → (ℕ → ℕ) → Type 0
-Coded w v = (x : ℕ) → x < 329 → v x < w
-
 -- The rule of row i at its nodes; q and ty are the nodes of the parameter that the row names, if it names one.
 abbrev pub RowHolds : ℕ → Term → ℕ → ℕ → (ℕ → Ty ℕ) → (ℕ → ℕ) → Type 0
-RowHolds i (Lam p b) q ty t v = (v (i + 73) ≡ v 0) × (t (i + 64) ≡ arrow (v q) (t ty) (v (b + 73)) (t (b + 64)))
-RowHolds i (App f a) q ty t v = t (f + 64) ≡ arrow (v (a + 73)) (t (a + 64)) (v (i + 73)) (t (i + 64))
+RowHolds i (Lam p b) q ty t v = (v (rowQualifier i) ≡ v 0) × (t (rowType i) ≡ arrow (v q) (t ty) (v (rowQualifier b)) (t (rowType b)))
+RowHolds i (App f a) q ty t v = t (rowType f) ≡ arrow (v (rowQualifier a)) (t (rowType a)) (v (rowQualifier i)) (t (rowType i))
 RowHolds i (Op o l r) q ty t v =
-    (t (l + 64) ≡ int)
-    × (t (r + 64) ≡ int)
-    × (v (r + 73) ≡ v (l + 73))
-    × (v (i + 73) ≡ cond (keeps o) (v (l + 73)) (v 0))
-    × (t (i + 64) ≡ int)
-RowHolds i (Var p) q ty t v = (v (i + 73) ≡ v q) × (t (i + 64) ≡ t ty)
-RowHolds i (Num n) q ty t v = t (i + 64) ≡ int
-RowHolds i (Enc s n) q ty t v = (v (i + 73) ≡ v s) × (t (i + 64) ≡ int)
+    (t (rowType l) ≡ int)
+    × (t (rowType r) ≡ int)
+    × (v (rowQualifier r) ≡ v (rowQualifier l))
+    × (v (rowQualifier i) ≡ cond (keeps o) (v (rowQualifier l)) (v 0))
+    × (t (rowType i) ≡ int)
+RowHolds i (Var p) q ty t v = (v (rowQualifier i) ≡ v q) × (t (rowType i) ≡ t ty)
+RowHolds i (Num n) q ty t v = t (rowType i) ≡ int
+RowHolds i (Enc s n) q ty t v = (v (rowQualifier i) ≡ v s) × (t (rowType i) ≡ int)
 
 -- The parameter that a row names, if it names one.
 abbrev pub parameterOf : Term → ℕ
@@ -75,24 +70,24 @@ parameterOf (Num n) = 0
 parameterOf (Enc s n) = 0
 
 -- What a list of the parameters' nodes has for the parameter that a row names.
-abbrev pub named : List ℕ → Term → ℕ
-named nodes term = getD nodes (parameterOf term) 0
+abbrev pub nodeNamed : List ℕ → Term → ℕ
+nodeNamed l term = getD l (parameterOf term) 0
 
--- The words and shapes that codes and kinds of nodes give the slots; a kind is 0 for unknown, 1 for INT, more for an arrow.
-abbrev pub wordOf : Machine → (ℕ → ℕ) → Slot → ℕ
-wordOf m w (variable k) = w (k + words (m .schemes))
-wordOf m w (param p) = w (paramAt m p .qualifier)
-wordOf m w (row i) = w (i + 73)
+-- The words and shapes that codes and kinds of nodes give the slots.
+abbrev pub nodeWord : Machine → (ℕ → ℕ) → Slot → ℕ
+nodeWord m w (variable k) = w (k + words (m .schemes))
+nodeWord m w (param p) = w (paramAt m p .qualifier)
+nodeWord m w (row i) = w (rowQualifier i)
 
-unfoldable pub shapeOf : ℕ → Shape
-shapeOf ℕ.zero = Shape.any
-shapeOf (ℕ.suc ℕ.zero) = Shape.int
-shapeOf (ℕ.suc (ℕ.suc d)) = Shape.arrow
+unfoldable pub kindShape : ℕ → Shape
+kindShape ℕ.zero = Shape.any
+kindShape (ℕ.suc ℕ.zero) = Shape.int
+kindShape (ℕ.suc (ℕ.suc d)) = Shape.arrow
 
-abbrev pub shapesOf : Machine → (ℕ → ℕ) → Slot → Shape
-shapesOf m kind (variable k) = Shape.int
-shapesOf m kind (param p) = shapeOf (kind (paramAt m p .typerow))
-shapesOf m kind (row i) = shapeOf (kind (i + 64))
+abbrev pub nodeShape : Machine → (ℕ → ℕ) → Slot → Shape
+nodeShape m kind (variable k) = Shape.int
+nodeShape m kind (param p) = kindShape (kind (paramAt m p .typerow))
+nodeShape m kind (row i) = kindShape (kind (rowType i))
 
 -- A solution of the whole program.
 pub record Solution (R : List ℕ) (m : Machine) (t : ℕ → Ty ℕ) (v : ℕ → ℕ) : Type 0 where
@@ -103,9 +98,9 @@ pub record Solution (R : List ℕ) (m : Machine) (t : ℕ → Ty ℕ) (v : ℕ �
 
 -- w is the greatest of all solutions' qualifiers, and kind says each node's shape in them.
 pub record Solved (R : List ℕ) (m : Machine) (w kind : ℕ → ℕ) : Type 0 where
-  pub above : (t : ℕ → Ty ℕ) (v : ℕ → ℕ) → Solution R m t v → (x : ℕ) → x < 329 → under R (v x) (w x) ≡ true
-  pub ints : (t : ℕ → Ty ℕ) (v : ℕ → ℕ) → Solution R m t v → (x : ℕ) → x < 329 → kind x ≡ 1 → t x ≡ int
-  pub arrows : (t : ℕ → Ty ℕ) (v : ℕ → ℕ) → Solution R m t v → (x : ℕ) → x < 329 → 2 ≤ kind x →
+  pub above : (t : ℕ → Ty ℕ) (v : ℕ → ℕ) → Solution R m t v → (x : ℕ) → x < nodes → under R (v x) (w x) ≡ true
+  pub ints : (t : ℕ → Ty ℕ) (v : ℕ → ℕ) → Solution R m t v → (x : ℕ) → x < nodes → kind x ≡ intKind → t x ≡ int
+  pub arrows : (t : ℕ → Ty ℕ) (v : ℕ → ℕ) → Solution R m t v → (x : ℕ) → x < nodes → firstArrow ≤ kind x →
       (q : ℕ) × (a : Ty ℕ) × (r : ℕ) × (b : Ty ℕ) × (t x ≡ arrow q a r b)
   -- with any one type for what is unknown there is a solution that has w
-  pub choice : (leaf : Ty ℕ) → (t : ℕ → Ty ℕ) × Solution R m t w × ((x : ℕ) → x < 329 → kind x ≡ 0 → t x ≡ leaf)
+  pub choice : (leaf : Ty ℕ) → (t : ℕ → Ty ℕ) × Solution R m t w × ((x : ℕ) → x < nodes → kind x ≡ unknown → t x ≡ leaf)

@@ -9,7 +9,8 @@ use Rattle.model.specs.Lists.{bytes}
 use Rattle.model.specs.Machine.{Machine}
 use Rattle.model.specs.Word.{qualifierWord}
 use Rattle.model.specs.Report.{lines, variableLine, paramLine, rowLine, report}
-use Rattle.report.specs.Codes.{Codes, wordOf, shapeOf}
+use Rattle.report.specs.Codes.{codedWord, codedShape}
+use Rattle.report.specs.declared.Codes.{Codes}
 use Rattle.report.specs.Writing.{Room, Wrote, Spelled, wordsIn, pairText, variableText, slotText, variableAt, slotAt}
 use Rattle.report.specs.Written.{Matches, reportOf, Written}
 use Rattle.report.proofs.Writing.{room-first, room-rest, wrote-both}
@@ -18,8 +19,8 @@ unfoldable pub text : List (List ℕ) → Codes → ℕ → ℕ → List ℕ
 text names c params rows =
     pairText (bytes "OK") params rows
     ++ lines (variableAt names (c .variables)) 0 64
-    ++ lines (slotAt names 80 (c .paramWords) (c .paramShapes)) 0 params
-    ++ lines (slotAt names 69 (c .rowWords) (c .rowShapes)) 0 rows
+    ++ lines (slotAt names 80 (c .paramwords) (c .paramshapes)) 0 params
+    ++ lines (slotAt names 69 (c .rowwords) (c .rowshapes)) 0 rows
 
 lines-same : (f g : ℕ → List ℕ) (i n : ℕ) → ((k : ℕ) → k < i + n → f k ≡ g k) → lines f i n ≡ lines g i n
 unfolding lines
@@ -27,7 +28,7 @@ lines-same f g i zero h = refl
 lines-same f g i (suc n) h = rw (h i (omega arith), lines-same f g (i + 1) n (λ k b. h k (omega arith)))
 
 module _ (c : Codes) (params rows : ℕ) (m : Machine) (matched : Matches m c params rows) where
-  variable-same : (k : ℕ) → k < 64 → variableLine m (wordOf c) (shapeOf c) k ≡ variableAt (m .schemes .names) (c .variables) k
+  variable-same : (k : ℕ) → k < 64 → variableLine m (codedWord c) (codedShape c) k ≡ variableAt (m .schemes .names) (c .variables) k
   unfolding variableLine variableText
   variable-same k h = rw (matched .listed k h)
 
@@ -56,7 +57,7 @@ module _ (table : List ℕ) (names : List (List ℕ)) (spelled : Spelled table n
   pub same-text : (c : Codes) (params rows : ℕ) → text (wordsIn table) c params rows ≡ text names c params rows
   unfolding text
   same-text c params rows =
-      rw (same-variables (c .variables), same-slots 80 (c .paramWords) (c .paramShapes) params, same-slots 69 (c .rowWords) (c .rowShapes) rows)
+      rw (same-variables (c .variables), same-slots 80 (c .paramwords) (c .paramshapes) params, same-slots 69 (c .rowwords) (c .rowshapes) rows)
 
 -- The four parts of the text in turn: each has room once those before it are written, and with the last of them the report is written.
 module _ (names : List (List ℕ)) (c : Codes) (params rows : ℕ) {l : List ℕ} (room : Room l 0 (text names c params rows)) where
@@ -70,17 +71,17 @@ module _ (names : List (List ℕ)) (c : Codes) (params rows : ℕ) {l : List ℕ
     variables-room = room-rest _ (room-first _ (room-first _ room)) counts
 
     module _ {l₂ : List ℕ} {i₂ : ℕ} (variables : Wrote l₁ i₁ (lines (variableAt names (c .variables)) 0 64) l₂ i₂) where
-      pub params-room : Room l₂ i₂ (lines (slotAt names 80 (c .paramWords) (c .paramShapes)) 0 params)
+      pub params-room : Room l₂ i₂ (lines (slotAt names 80 (c .paramwords) (c .paramshapes)) 0 params)
       unfolding text
       params-room = room-rest _ (room-first _ room) (wrote-both counts variables)
 
-      module _ {l₃ : List ℕ} {i₃ : ℕ} (slots : Wrote l₂ i₂ (lines (slotAt names 80 (c .paramWords) (c .paramShapes)) 0 params) l₃ i₃) where
-        pub rows-room : Room l₃ i₃ (lines (slotAt names 69 (c .rowWords) (c .rowShapes)) 0 rows)
+      module _ {l₃ : List ℕ} {i₃ : ℕ} (slots : Wrote l₂ i₂ (lines (slotAt names 80 (c .paramwords) (c .paramshapes)) 0 params) l₃ i₃) where
+        pub rows-room : Room l₃ i₃ (lines (slotAt names 69 (c .rowwords) (c .rowshapes)) 0 rows)
         unfolding text
         rows-room = room-rest _ room (wrote-both (wrote-both counts variables) slots)
 
         pub written : {l₄ : List ℕ} {i₄ : ℕ} (own : List (List ℕ)) → text names c params rows ≡ text own c params rows
-            → Wrote l₃ i₃ (lines (slotAt names 69 (c .rowWords) (c .rowShapes)) 0 rows) l₄ i₄ → Written own c params rows l l₄ i₄
+            → Wrote l₃ i₃ (lines (slotAt names 69 (c .rowwords) (c .rowshapes)) 0 rows) l₄ i₄ → Written own c params rows l l₄ i₄
         unfolding text
         written {l₄} {i₄} own same last =
             let reported : (m : Machine) → m .schemes .names ≡ own → Matches m c params rows → reportOf m c ≡ text names c params rows =

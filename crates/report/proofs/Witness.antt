@@ -17,7 +17,8 @@ use Rattle.model.specs.declared.Param.{Param}
 use Rattle.model.specs.declared.Term.the-variants.{Num}
 use Rattle.model.proofs.Limits.{Within}
 use Rattle.model.proofs.Length.{report-length}
-use Rattle.report.specs.Codes.{Codes, wordOf, shapeOf}
+use Rattle.report.specs.Codes.{codedWord, codedShape}
+use Rattle.report.specs.declared.Codes.{Codes}
 use Rattle.report.specs.Writing.{Room}
 use Rattle.report.specs.Written.{Short, Matches, Written}
 use Rattle.report.proofs.Text.{text, is-report}
@@ -98,8 +99,8 @@ module _ (names : List (List ℕ)) (short : Short names) (c : Codes) (params row
     -- A buffer that is long enough for any report has room for the text.
     pub text-room : (l : List ℕ) → 6280 ≤ length l → Room l 0 (text names c params rows)
     text-room l long =
-        record { fits = rw (← is-report c params rows witness matching names same-names) (omega (arith, report-length witness within (wordOf c) (shapeOf c))) }
+        record { fits = rw (← is-report c params rows witness matching names same-names) (omega (arith, report-length witness within (codedWord c) (codedShape c))) }
 
     -- What `write` returns is a place in the buffer, whatever the codes are.
     pub written-length : {before after : List ℕ} {returned : ℕ} → Written names c params rows before after returned → returned ≤ 6280
-    written-length w = omega (arith, w .size witness same-names matching, report-length witness within (wordOf c) (shapeOf c))
+    written-length w = omega (arith, w .size witness same-names matching, report-length witness within (codedWord c) (codedShape c))

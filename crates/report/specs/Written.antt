@@ -11,7 +11,8 @@ use Rattle.model.specs.Lists.{allOf}
 use Rattle.model.specs.Machine.{Machine}
 use Rattle.model.specs.Inference.{mentions}
 use Rattle.model.specs.Report.{report}
-use Rattle.report.specs.Codes.{Codes, wordOf, shapeOf}
+use Rattle.report.specs.Codes.{codedWord, codedShape}
+use Rattle.report.specs.declared.Codes.{Codes}
 
 -- There are at most eight schemes' names, and none is longer than five bytes.
 pub record Short (names : List (List ℕ)) : Type 0 where
@@ -26,7 +27,7 @@ pub record Matches (m : Machine) (c : Codes) (params rows : ℕ) : Type 0 where
 
 -- The report of a machine with the words and shapes of the codes.
 abbrev pub reportOf : Machine → Codes → List ℕ
-reportOf m c = report m (wordOf c) (shapeOf c)
+reportOf m c = report m (codedWord c) (codedShape c)
 
 -- For every machine with these schemes' names that the codes match: its report stands at the front of the buffer, "Bytes beyond the report are unchanged", and what is
 -- returned is "the report's length in bytes".

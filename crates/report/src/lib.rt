@@ -10,6 +10,18 @@ ghost use Rattle.model.specs.Report.{lines, shapeWord};
 ghost use Rattle.report.specs.Codes.{shapeOfCode, codesOf};
 ghost use Rattle.report.specs.Writing.{Room, Wrote, Spells, Tabled, Spelled, wordsIn, pairText, variableText, slotText, variableAt, slotAt};
 ghost use Rattle.report.specs.Written.{Short, Written};
+use model::PARAMS;
+use model::TERMS;
+use model::VARIABLES;
+
+// The code of a word for each named variable, 9 where it is not listed, and the codes of a word and a shape for each parameter and each term row.
+pub struct Codes {
+    pub variables: [u8; VARIABLES],
+    pub paramwords: [u8; PARAMS],
+    pub paramshapes: [u8; PARAMS],
+    pub rowwords: [u8; TERMS],
+    pub rowshapes: [u8; TERMS],
+}
 
 // A word of the report: bytes that begin with it, and how many of them it has.
 struct Word([u8; 5], usize);
@@ -224,20 +236,43 @@ fn write_slots(
 
 // Writes the report of any machine that the codes and the counts match, and returns its length. Any codes will do: a variable is listed where
 // its code is below 9.
-pub fn write(
+pub fn write(buffer: &mut [u8], names: &[u8], codes: Codes, params: usize, rows: usize) -> usize
+    requires { ⌜ Short (fields (now names)) ⌝ ∗ ⌜ (params ≤ 64) × (rows ≤ 256) × (6280 ≤ length (now buffer)) ⌝ }
+    ensures { λ r. ⌜ Written (fields (now (names .entry))) codes params rows (now (buffer .entry)) (now (buffer .exit)) r ⌝ }
+{
+    let variables = codes.variables;
+    let paramwords = codes.paramwords;
+    let paramshapes = codes.paramshapes;
+    let rowwords = codes.rowwords;
+    let rowshapes = codes.rowshapes;
+    write_arrays(
+        buffer,
+        names,
+        &variables,
+        &paramwords,
+        &paramshapes,
+        &rowwords,
+        &rowshapes,
+        params,
+        rows,
+    )
+}
+
+// The same from the arrays of the codes: lent as they are, they tell their lengths.
+fn write_arrays(
     buffer: &mut [u8],
     names: &[u8],
-    variables: &[u8; 64],
-    param_words: &[u8; 64],
-    param_shapes: &[u8; 64],
-    row_words: &[u8; 256],
-    row_shapes: &[u8; 256],
+    variables: &[u8; VARIABLES],
+    paramwords: &[u8; PARAMS],
+    paramshapes: &[u8; PARAMS],
+    rowwords: &[u8; TERMS],
+    rowshapes: &[u8; TERMS],
     params: usize,
     rows: usize,
 ) -> usize
     requires { ⌜ Short (fields (now names)) ⌝ ∗ ⌜ (params ≤ 64) × (rows ≤ 256) × (6280 ≤ length (now buffer)) ⌝ }
     ensures { λ r. ⌜ Written (fields (now (names .entry)))
-        (codesOf (now (variables .entry)) (now («param_words» .entry)) (now («param_shapes» .entry)) (now («row_words» .entry)) (now («row_shapes» .entry)))
+        (codesOf (now (variables .entry)) (now (paramwords .entry)) (now (paramshapes .entry)) (now (rowwords .entry)) (now (rowshapes .entry)))
         params rows (now (buffer .entry)) (now (buffer .exit)) r ⌝ }
 {
     let words = word_table(names);
@@ -248,9 +283,9 @@ pub fn write(
         second,
         &words,
         b'P',
-        param_words,
-        param_shapes,
+        paramwords,
+        paramshapes,
         params,
     );
-    write_slots(buffer, third, &words, b'E', row_words, row_shapes, rows)
+    write_slots(buffer, third, &words, b'E', rowwords, rowshapes, rows)
 }

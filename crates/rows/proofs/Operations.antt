@@ -7,15 +7,16 @@ use mathlib.Core.Path.{_≡_, refl, sym, ap, subst, _∙_}
 use lib.ListN.{set}
 use lib.Dec.{ltb}
 use borrow.Author.Tests.{lt-ltb}
+use Rattle.layout.specs.Layout.{rowType, rowQualifier, nodes}
 use Rattle.scheme.specs.Rule.{wordsAt, topAt, highestAt, under, Lattice}
 use Rattle.scheme.specs.Operation.{keeps, resultOf}
 use Rattle.model.specs.Typing.{Ty, int}
 use Rattle.model.specs.declared.Term.the-variants.{Op}
 use Rattle.forest.specs.Forest.{up, here, Hung}
 use Rattle.forest.proofs.Links.{by-eq, up-other}
-use Rattle.graph.specs.Types.{TypeClasses}
+use Rattle.graph.specs.Types.{TypeClasses, typesOf}
 use Rattle.graph.specs.Unused.{Unused}
-use Rattle.qualifiers.specs.Classes.{boundAt, Classes, United, Class, Restricted, Untouched}
+use Rattle.qualifiers.specs.Classes.{boundAt, Classes, United, Class, Restricted, Untouched, Within, qualifiersOf}
 use Rattle.qualifiers.proofs.Uniting.{no-class, class-node, new-alike, untouched-more}
 use Rattle.readings.specs.Nodes.{RowHolds, RowFits}
 use Rattle.unification.specs.Merging.{Always, Reduced, MadeInt}
@@ -24,7 +25,7 @@ use Rattle.unification.proofs.Unused.{unused-kind, unused-more}
 use Rattle.unification.proofs.Fresh.{new-int}
 use Rattle.rows.specs.Steps.{Extended, Ready, Stepped}
 use Rattle.rows.specs.declared.Verdict.the-variants.{Fine, Shapes, Apart, Broken}
-use Rattle.rows.proofs.Steps.{Taken, taken-beside, Equated, equated-one, equated-then, equated-as, extended, extended-below, parted}
+use Rattle.rows.proofs.Steps.{Taken, taken-beside, Equated, equated, equated-then, equated-as, extended, extended-below, parted}
 
 -- The result's node is the operands' or PLAIN's.
 pub result-one : (P : ℕ → Type 0) (o l : ℕ) {r : ℕ} → r ≡ resultOf o l → P l → P 0 → P r
@@ -49,8 +50,8 @@ result-alike : (o x y : ℕ) {r : ℕ} (v : ℕ → ℕ) → r ≡ resultOf o x 
 result-alike o x y v is e = ap v is ∙ result-node o x v ∙ ap (λ (a : ℕ). cond (keeps o) a (v 0)) e ∙ sym (result-node o y v)
 
 -- One equation of types after the other.
-reduced-beside : {kids u k u₁ k₁ u₂ k₂ : List ℕ} {E F : (ℕ → Ty ℕ) → (ℕ → ℕ) → Type 0} → Reduced kids u k u₁ k₁ E Always → Reduced kids u₁ k₁ u₂ k₂ F Always →
-    Reduced kids u k u₂ k₂ (λ t v. E t v × F t v) Always
+reduced-beside : {kids u k u₁ k₁ u₂ k₂ : List ℕ} {E F : (ℕ → Ty ℕ) → (ℕ → ℕ) → Type 0} → Reduced kids (typesOf u k) (typesOf u₁ k₁) E Always → Reduced kids (typesOf u₁ k₁) (typesOf u₂ k₂) F Always →
+    Reduced kids (typesOf u k) (typesOf u₂ k₂) (λ t v. E t v × F t v) Always
 reduced-beside one two =
     record {
       classes = two .classes;
@@ -59,33 +60,33 @@ reduced-beside one two =
       outof = λ t v reads _. let last = two .outof t v reads tt in let first = one .outof t v (last .0) tt in (first .0, (first .1, last .1));
     }
 
-module _ {i l r : ℕ} {R u k p b : List ℕ} (o : ℕ) (stands : (i < 256) × (l < i) × (r < i) × (o < 5)) (types : TypeClasses u k) (classes : Classes R p b) where
+module _ {i l r : ℕ} {R u k p b : List ℕ} (o : ℕ) (stands : (i < 256) × (l < i) × (r < i) × (o < 5)) (types : TypeClasses (typesOf u k)) (classes : Classes R (qualifiersOf p b)) where
   abbrev Holds : (ℕ → Ty ℕ) → (ℕ → ℕ) → Type 0
   Holds = RowHolds i (Op o l r) 0 0
 
   abbrev Fits : (ℕ → ℕ) → Type 0
   Fits = RowFits R (Op o l r)
 
-  module _ {u₁ k₁ : List ℕ} {one : Bool} (first : MadeInt u k u₁ k₁ (l + 64) one) where
-    unused-first : {n : ℕ} (kids : List ℕ) → i + 64 ≡ n → Unused n u k kids → Unused n u₁ k₁ kids
+  module _ {u₁ k₁ : List ℕ} {one : Bool} (first : MadeInt (typesOf u k) (typesOf u₁ k₁) (rowType l) one) where
+    unused-first : {n : ℕ} (kids : List ℕ) → rowType i ≡ n → Unused n (typesOf u k) kids → Unused n (typesOf u₁ k₁) kids
     unused-first {n} kids e = first .stays n kids (omega arith) (omega arith)
 
     -- The left operand is an arrow.
-    pub left-clash : one ≡ false → (kids : List ℕ) → Ready R i kids u k p b → Stepped R i kids u k p b u₁ k₁ p b Holds Fits Shapes
+    pub left-clash : one ≡ false → (kids : List ℕ) → Ready R i kids (typesOf u k) (qualifiersOf p b) → Stepped R i kids (typesOf u k) (qualifiersOf p b) (typesOf u₁ k₁) (qualifiersOf p b) Holds Fits Shapes
     left-clash clashed kids ready =
         let clash = first .clash clashed kids in
         (λ t v reads e. clash .0 t v reads (e .0), clash .1, unused-more (unused-first kids refl (ready .types)) (omega arith))
 
     module _ (made : one ≡ true) where
-      pub left-classes : TypeClasses u₁ k₁
+      pub left-classes : TypeClasses (typesOf u₁ k₁)
       left-classes = first .made made u .classes
 
-      module _ {u₂ k₂ : List ℕ} {two : Bool} (second : MadeInt u₁ k₁ u₂ k₂ (r + 64) two) where
-        unused-second : (kids : List ℕ) → Unused (i + 64) u k kids → Unused (i + 64) u₂ k₂ kids
-        unused-second kids unused = second .stays (i + 64) kids (omega arith) (omega arith) (unused-first kids refl unused)
+      module _ {u₂ k₂ : List ℕ} {two : Bool} (second : MadeInt (typesOf u₁ k₁) (typesOf u₂ k₂) (rowType r) two) where
+        unused-second : (kids : List ℕ) → Unused (rowType i) (typesOf u k) kids → Unused (rowType i) (typesOf u₂ k₂) kids
+        unused-second kids unused = second .stays (rowType i) kids (omega arith) (omega arith) (unused-first kids refl unused)
 
         -- The right operand is an arrow.
-        pub right-clash : two ≡ false → (kids : List ℕ) → Ready R i kids u k p b → Stepped R i kids u k p b u₂ k₂ p b Holds Fits Shapes
+        pub right-clash : two ≡ false → (kids : List ℕ) → Ready R i kids (typesOf u k) (qualifiersOf p b) → Stepped R i kids (typesOf u k) (qualifiersOf p b) (typesOf u₂ k₂) (qualifiersOf p b) Holds Fits Shapes
         right-clash clashed kids ready =
             let before = first .made made kids in
             let clash = second .clash clashed kids in (
@@ -95,57 +96,57 @@ module _ {i l r : ℕ} {R u k p b : List ℕ} (o : ℕ) (stands : (i < 256) × (
             )
 
         module _ (both : two ≡ true) where
-          pub right-classes : TypeClasses u₂ k₂
+          pub right-classes : TypeClasses (typesOf u₂ k₂)
           right-classes = second .made both u .classes
 
           abbrev k₃ : List ℕ
-          k₃ = set k₂ (i + 64) 1
+          k₃ = set k₂ (rowType i) 1
 
           -- The three types are INT.
-          all-int : (kids : List ℕ) → Unused (i + 64) u k kids → Reduced kids u k u₂ k₃ (λ t v. ((t (l + 64) ≡ int) × (t (r + 64) ≡ int)) × (t (i + 64) ≡ int)) Always
+          all-int : (kids : List ℕ) → Unused (rowType i) (typesOf u k) kids → Reduced kids (typesOf u k) (typesOf u₂ k₃) (λ t v. ((t (rowType l) ≡ int) × (t (rowType r) ≡ int)) × (t (rowType i) ≡ int)) Always
           all-int kids unused =
               let after = unused-second kids unused in
               reduced-beside (reduced-beside (first .made made kids) (second .made both kids))
-              (new-int right-classes (omega arith) (after .own (i + 64) (omega arith) (omega arith)) (after .unknown (i + 64) (omega arith) (omega arith)))
+              (new-int right-classes (omega arith) (after .own (rowType i) (omega arith) (omega arith)) (after .unknown (rowType i) (omega arith) (omega arith)))
 
-          unused-after : (kids : List ℕ) → Unused (i + 64) u k kids → Unused (i + 1 + 64) u₂ k₃ kids
+          unused-after : (kids : List ℕ) → Unused (rowType i) (typesOf u k) kids → Unused (rowType (i + 1)) (typesOf u₂ k₃) kids
           unused-after kids unused =
-              unused-kind (unused-more (unused-second kids unused) (omega arith)) (i + 64) 1 (omega arith) (omega arith) (right-classes .size) (λ h. absurd (omega arith))
+              unused-kind (unused-more (unused-second kids unused) (omega arith)) (rowType i) 1 (omega arith) (omega arith) (right-classes .size) (λ h. absurd (omega arith))
 
           -- The qualifiers that the row asks for.
           abbrev Alikes : (ℕ → ℕ) → Type 0
-          Alikes v = (v (r + 73) ≡ v (l + 73)) × (v (i + 73) ≡ v (resultOf o (l + 73)))
+          Alikes v = (v (rowQualifier r) ≡ v (rowQualifier l)) × (v (rowQualifier i) ≡ v (resultOf o (rowQualifier l)))
 
-          taken : (kids : List ℕ) → Unused (i + 64) u k kids → Taken kids u k u₂ k₃ Holds Alikes
+          taken : (kids : List ℕ) → Unused (rowType i) (typesOf u k) kids → Taken kids (typesOf u k) (typesOf u₂ k₃) Holds Alikes
           taken kids unused =
               taken-beside (all-int kids unused)
-              (λ t v e. (((e .0, e .1), e .4), (e .2, e .3 ∙ sym (result-node o (l + 73) v))))
-              (λ t v f q. (f .0 .0, f .0 .1, q .0, q .1 ∙ result-node o (l + 73) v, f .1))
+              (λ t v e. (((e .0, e .1), e .4), (e .2, e .3 ∙ sym (result-node o (rowQualifier l) v))))
+              (λ t v f q. (f .0 .0, f .0 .1, q .0, q .1 ∙ result-node o (rowQualifier l) v, f .1))
 
-          module _ {p₁ b₁ : List ℕ} {class : ℕ} (answer : United R p b p₁ b₁ (r + 73) (l + 73) (ltb class 329) × Class p₁ b b₁ (l + 73) class) where
+          module _ {p₁ b₁ : List ℕ} {class : ℕ} (answer : United R (qualifiersOf p b) (qualifiersOf p₁ b₁) (rowQualifier r) (rowQualifier l) (ltb class nodes) × Class b (qualifiersOf p₁ b₁) (rowQualifier l) class) where
             -- The operands have two constants.
-            pub operands-apart : class ≡ 329 → (kids : List ℕ) → Ready R i kids u k p b → Stepped R i kids u k p b u₂ k₃ p₁ b₁ Holds Fits Apart
+            pub operands-apart : class ≡ nodes → (kids : List ℕ) → Ready R i kids (typesOf u k) (qualifiersOf p b) → Stepped R i kids (typesOf u k) (qualifiersOf p b) (typesOf u₂ k₃) (qualifiersOf p₁ b₁) Holds Fits Apart
             operands-apart none kids ready = (
               parted (taken kids (ready .types)) (refl, refl) (λ v constant linked q. answer .0 .clash (no-class none) v constant linked (q .0)),
               unused-after kids (ready .types),
             )
 
-            module _ (some : class ≡ 329 → ⊥) where
-              node : class < 329
+            module _ (some : class ≡ nodes → ⊥) where
+              node : class < nodes
               node = class-node (answer .1) some
 
-              below : class < i + 73
+              below : class < rowQualifier i
               below = omega (arith, answer .1 .low node)
 
-              united : United R p b p₁ b₁ (r + 73) (l + 73) true
-              united = rw (lt-ltb class 329 node) at (answer .0)
+              united : United R (qualifiersOf p b) (qualifiersOf p₁ b₁) (rowQualifier r) (rowQualifier l) true
+              united = rw (lt-ltb class nodes node) at (answer .0)
 
-              module _ {result : ℕ} {p₂ : List ℕ} (is : result ≡ resultOf o class) (placed : p₂ ≡ set p₁ (i + 73) result) (untouched : Untouched R (i + 73) p b) where
-                untouched-first : Untouched R (i + 73) p₁ b₁
-                untouched-first = united .stays (i + 73) (omega arith) (omega arith) untouched
+              module _ {result : ℕ} {p₂ : List ℕ} (is : result ≡ resultOf o class) (placed : p₂ ≡ set p₁ (rowQualifier i) result) (untouched : Untouched R (rowQualifier i) (qualifiersOf p b)) where
+                untouched-first : Untouched R (rowQualifier i) (qualifiersOf p₁ b₁)
+                untouched-first = united .stays (rowQualifier i) (omega arith, omega arith) untouched
 
                 -- The result is a root, so the row's node is put under it as it is.
-                hung : Hung p₁ p₂ (i + 73) result
+                hung : Hung p₁ p₂ (rowQualifier i) result
                 hung =
                     record {
                       root = result;
@@ -157,47 +158,47 @@ module _ {i l r : ℕ} {R u k p b : List ℕ} (o : ℕ) (stands : (i < 256) × (
                       under = placed;
                     }
 
-                result-below : result < i + 73
-                result-below = result-one (λ x. x < i + 73) o class is below (omega arith)
+                result-below : result < rowQualifier i
+                result-below = result-one (λ x. x < rowQualifier i) o class is below (omega arith)
 
-                new-result : United R p₁ b₁ p₂ b₁ (i + 73) result true
+                new-result : United R (qualifiersOf p₁ b₁) (qualifiersOf p₂ b₁) (rowQualifier i) result true
                 new-result =
-                    new-alike (united .classes) (omega arith) (omega arith) (untouched-first .own (i + 73) (omega arith) (omega arith)) (untouched-first .unbound (i + 73) (omega arith) (omega arith))
+                    new-alike (united .classes) (omega arith) (omega arith) (untouched-first .own (rowQualifier i) (omega arith) (omega arith)) (untouched-first .unbound (rowQualifier i) (omega arith) (omega arith))
                     (omega (arith, result-below)) hung
 
-                equated : Equated R p b p₂ b₁ Alikes
-                equated =
-                    equated-then (equated-one united)
+                equated-row : Equated R (qualifiersOf p b) (qualifiersOf p₂ b₁) Alikes
+                equated-row =
+                    equated-then (equated united)
                     (equated-as
-                    (λ v linked e. e ∙ sym (result-alike o class (l + 73) v is (answer .1 .holds node v linked)))
-                    (λ v linked e. e ∙ result-alike o class (l + 73) v is (answer .1 .holds node v linked))
-                    (equated-one new-result))
+                    (λ v linked e. e ∙ sym (result-alike o class (rowQualifier l) v is (answer .1 .holds node v linked)))
+                    (λ v linked e. e ∙ result-alike o class (rowQualifier l) v is (answer .1 .holds node v linked))
+                    (equated new-result))
 
                 module _ {most : ℕ} {b₂ : List ℕ} {fits : Bool} (limit : most ≡ highestAt R o) (restricted : Restricted R b₁ b₂ class most fits) where
-                  op-extended : (kids : List ℕ) → Ready R i kids u k p b → Extended R kids u k p b u₂ k₃ p₂ b₂ Holds Fits
+                  op-extended : (kids : List ℕ) → Ready R i kids (typesOf u k) (qualifiersOf p b) → Extended R kids (typesOf u k) (qualifiersOf p b) (typesOf u₂ k₃) (qualifiersOf p₂ b₂) Holds Fits
                   op-extended kids ready =
-                      subst (λ (n : ℕ). Extended R kids u k p b u₂ k₃ p₂ b₂ Holds (λ v. under R (v (l + 73)) n ≡ true)) limit
-                      (extended-below (extended (taken kids (ready .types)) equated) restricted
-                      (rw placed (up-other (united .classes .forest) (i + 73) result (omega arith) class (λ e. omega (arith, below)) ∙ answer .1 .root node))
+                      subst (λ (n : ℕ). Extended R kids (typesOf u k) (qualifiersOf p b) (typesOf u₂ k₃) (qualifiersOf p₂ b₂) Holds (λ v. under R (v (rowQualifier l)) n ≡ true)) limit
+                      (extended-below (extended (taken kids (ready .types)) equated-row) restricted
+                      (rw placed (up-other (united .classes .forest) (rowQualifier i) result (omega arith) class (λ e. omega (arith, below)) ∙ answer .1 .root node))
                       (λ v linked. answer .1 .holds node v (new-result .outof refl v linked .0)))
 
                   -- Only the class's bound has changed, and a constant's was tested.
-                  within-after : fits ≡ true → ((c : ℕ) → c < wordsAt R → under R c (boundAt b c) ≡ true) → (c : ℕ) → c < wordsAt R → under R c (boundAt b₂ c) ≡ true
+                  within-after : fits ≡ true → Within R b → Within R b₂
                   within-after fit within c code =
                       by-eq c class
                       (λ e. subst (λ (x : ℕ). under R x (boundAt b₂ x) ≡ true) (sym e) (restricted .own fit (omega arith)))
                       (λ n. ap (under R c) (restricted .others c n ∙ answer .1 .others c n) ∙ within c code)
 
-                  pub op-fine : fits ≡ true → (kids : List ℕ) → Ready R i kids u k p b → Stepped R i kids u k p b u₂ k₃ p₂ b₂ Holds Fits Fine
+                  pub op-fine : fits ≡ true → (kids : List ℕ) → Ready R i kids (typesOf u k) (qualifiersOf p b) → Stepped R i kids (typesOf u k) (qualifiersOf p b) (typesOf u₂ k₃) (qualifiersOf p₂ b₂) Holds Fits Fine
                   op-fine fit kids ready = (
                     op-extended kids ready,
                     record {
                       types = unused-after kids (ready .types);
-                      qualifiers = restricted .stays p₂ (i + 1 + 73) (omega (arith, below))
-                          (new-result .stays (i + 1 + 73) (omega arith) (omega (arith, result-below)) (untouched-more (omega arith) untouched-first));
+                      qualifiers = restricted .stays p₂ (rowQualifier (i + 1)) (omega (arith, below))
+                          (new-result .stays (rowQualifier (i + 1)) (omega arith, omega (arith, result-below)) (untouched-more (omega arith) untouched-first));
                       within = within-after fit (ready .within);
                     },
                   )
 
-                  pub op-broken : fits ≡ false → (kids : List ℕ) → Ready R i kids u k p b → Stepped R i kids u k p b u₂ k₃ p₂ b₂ Holds Fits Broken
+                  pub op-broken : fits ≡ false → (kids : List ℕ) → Ready R i kids (typesOf u k) (qualifiersOf p b) → Stepped R i kids (typesOf u k) (qualifiersOf p b) (typesOf u₂ k₃) (qualifiersOf p₂ b₂) Holds Fits Broken
                   op-broken over kids ready = (op-extended kids ready, unused-after kids (ready .types), restricted .broken over)

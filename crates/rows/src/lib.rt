@@ -1,15 +1,25 @@
 // One row of the table, as a step of the solver: its types, then its qualifiers, then its bound.
+use layout::FIRST_ARROW;
+use layout::INT;
+use layout::NODES;
+use layout::PAIR_PLACES;
+use layout::PART_PLACES;
+use layout::UNKNOWN;
+use model::PARAMS;
 use model::Term;
+use scheme::RULE;
 use unification::Joining;
 ghost use mathlib.Core.List.{List};
 ghost use Prim.Native.Nat.{ℕ, _+_, _<_};
+ghost use Rattle.forest.specs.Pairs.{notesOf};
+ghost use Rattle.layout.specs.Layout.{rowType, rowQualifier, nodes};
 ghost use Rattle.model.specs.declared.Term.the-variants.{App, Op};
 ghost use Rattle.forest.specs.Forest.{Forest};
-ghost use Rattle.graph.specs.Types.{Parts, TypeClasses, Room, Same};
+ghost use Rattle.graph.specs.Types.{Parts, TypeClasses, PairRoom, Same, typesOf};
 ghost use Rattle.graph.specs.Unused.{Unused};
-ghost use Rattle.qualifiers.specs.Classes.{Classes, Untouched};
-ghost use Rattle.readings.specs.Nodes.{RowHolds, RowFits, named};
-ghost use Rattle.unification.specs.Answers.{Answered, Confined};
+ghost use Rattle.qualifiers.specs.Classes.{Classes, Untouched, qualifiersOf};
+ghost use Rattle.readings.specs.Nodes.{RowHolds, RowFits, nodeNamed};
+ghost use Rattle.unification.specs.Answers.{Enforces, Confined};
 ghost use Rattle.setup.specs.Descriptors.{Describes};
 ghost use Rattle.rows.specs.Rows.{RowStands};
 ghost use Rattle.rows.specs.Steps.{Ready, Stepped, Known, UnknownRoot, Bound};
@@ -24,42 +34,60 @@ pub enum Verdict {
 }
 
 // A row that is INT or an arrow whatever the others are: its nodes are new, so its kind is stored, and its qualifier put under that of node q.
-fn known_row(parent: &mut [u16; 329], kind: &mut [u16; 329], i: usize, q: usize, k: u16)
-    requires { ⌜ Forest (now parent) ⌝ ∗ ⌜ (i < 256) × (q < 329) ⌝ }
-    ensures { λ _. ⌜ Known i q k (now (kind .entry)) (now (parent .entry)) (now (kind .exit)) (now (parent .exit)) ⌝ }
+fn known_row(
+    qualifierparent: &mut [u16; NODES],
+    kind: &mut [u16; NODES],
+    i: usize,
+    q: usize,
+    k: u16,
+)
+    requires { ⌜ Forest (now qualifierparent) ⌝ ∗ ⌜ (i < 256) × (q < nodes) ⌝ }
+    ensures { λ _. ⌜ Known i q k (now (kind .entry)) (now (qualifierparent .entry)) (now (kind .exit)) (now (qualifierparent .exit)) ⌝ }
 {
-    kind[i + 64] = k;
-    forest::put_under_root(parent, i + 73, q);
+    kind[layout::row_type(i)] = k;
+    forest::put_under_root(qualifierparent, layout::row_qualifier(i), q);
 }
 
 // An OP row: three types are INT, the operands have one qualifier, the result has theirs or PLAIN, and theirs is at most the operation's.
 fn op_row(
-    rule: &[u8; 88],
-    parent: &mut [u16; 329],
-    bound: &mut [u8; 329],
-    up: &mut [u16; 329],
-    kind: &mut [u16; 329],
+    rule: &[u8; RULE],
+    qualifierparent: &mut [u16; NODES],
+    bound: &mut [u8; NODES],
+    typeparent: &mut [u16; NODES],
+    kind: &mut [u16; NODES],
     i: usize,
     o: u8,
     l: usize,
     r: usize,
 ) -> Verdict
-    requires { ⌜ TypeClasses (now up) (now kind) ⌝ ∗ ⌜ Classes (now rule) (now parent) (now bound) ⌝ ∗ ⌜ (i < 256) × (l < i) × (r < i) × (o < 5) ⌝ ∗ ⌜ Untouched (now rule) (i + 73) (now parent) (now bound) ⌝ }
-    ensures { λ a. ⌜ ((kids : List ℕ) → Ready (now (rule .entry)) i kids (now (up .entry)) (now (kind .entry)) (now (parent .entry)) (now (bound .entry)) → Stepped (now (rule .entry)) i kids (now (up .entry)) (now (kind .entry)) (now (parent .entry)) (now (bound .entry)) (now (up .exit)) (now (kind .exit)) (now (parent .exit)) (now (bound .exit)) (RowHolds i (Op o l r) 0 0) (RowFits (now (rule .entry)) (Op o l r)) a) ⌝ }
+    requires { ⌜ TypeClasses (typesOf (now typeparent) (now kind)) ⌝
+        ∗ ⌜ Classes (now rule) (qualifiersOf (now qualifierparent) (now bound)) ⌝
+        ∗ ⌜ (i < 256) × (l < i) × (r < i) × (o < 5) ⌝
+        ∗ ⌜ Untouched (now rule) (rowQualifier i) (qualifiersOf (now qualifierparent) (now bound)) ⌝ }
+    ensures { λ a. ⌜ ((kids : List ℕ) → Ready (now (rule .entry)) i kids
+        (typesOf (now (typeparent .entry)) (now (kind .entry))) (qualifiersOf (now (qualifierparent .entry)) (now (bound .entry))) → Stepped (now (rule .entry)) i kids
+        (typesOf (now (typeparent .entry)) (now (kind .entry))) (qualifiersOf (now (qualifierparent .entry)) (now (bound .entry)))
+        (typesOf (now (typeparent .exit)) (now (kind .exit))) (qualifiersOf (now (qualifierparent .exit)) (now (bound .exit))) (RowHolds i (Op o l r) 0 0) (RowFits (now (rule .entry)) (Op o l r)) a) ⌝ }
 {
-    if !unification::make_int(up, kind, l + 64) {
+    if !unification::make_int(typeparent, kind, layout::row_type(l)) {
         return Verdict::Shapes;
     }
-    if !unification::make_int(up, kind, r + 64) {
+    if !unification::make_int(typeparent, kind, layout::row_type(r)) {
         return Verdict::Shapes;
     }
-    kind[i + 64] = 1;
-    let class = qualifiers::unite(rule, parent, bound, r + 73, l + 73);
+    kind[layout::row_type(i)] = INT;
+    let class = qualifiers::unite(
+        rule,
+        qualifierparent,
+        bound,
+        layout::row_qualifier(r),
+        layout::row_qualifier(l),
+    );
     if class == qualifiers::APART {
         return Verdict::Apart;
     }
     let result = scheme::result(o, class as u16) as usize;
-    forest::put_under(parent, i + 73, result);
+    forest::put_under(qualifierparent, layout::row_qualifier(i), result);
     if qualifiers::restrict(rule, bound, class, scheme::highest_in(rule, o)) {
         Verdict::Fine
     } else {
@@ -69,138 +97,161 @@ fn op_row(
 
 // Whether making two nodes' types one can make a type that contains itself: they are two, and one is an arrow. To search where there is no need
 // does no harm, and a type that is missed here is found at the end.
-fn can_close(up: &[u16; 329], kind: &[u16; 329], x: usize, y: usize) -> bool
-    requires { ⌜ TypeClasses (now up) (now kind) ⌝ ∗ ⌜ (x < 329) × (y < 329) ⌝ }
+fn can_close(typeparent: &[u16; NODES], kind: &[u16; NODES], x: usize, y: usize) -> bool
+    requires { ⌜ TypeClasses (typesOf (now typeparent) (now kind)) ⌝ ∗ ⌜ (x < nodes) × (y < nodes) ⌝ }
 {
-    let a = forest::find(up, x);
-    let b = forest::find(up, y);
+    let a = forest::find(typeparent, x);
+    let b = forest::find(typeparent, y);
     if a == b {
         return false;
     }
-    if 1 < kind[a] {
+    if FIRST_ARROW <= kind[a] {
         return true;
     }
-    1 < kind[b]
+    FIRST_ARROW <= kind[b]
 }
 
 // Makes the types of two nodes one. Where that can make a type that contains itself the types are kept, and put back if it does or if they clash.
 fn unify_kept(
-    up: &mut [u16; 329],
-    kind: &mut [u16; 329],
-    kids: &[u16; 1280],
-    left: &mut [u16; 704],
-    right: &mut [u16; 704],
+    typeparent: &mut [u16; NODES],
+    kind: &mut [u16; NODES],
+    kids: &[u16; PART_PLACES],
+    left: &mut [u16; PAIR_PLACES],
+    right: &mut [u16; PAIR_PLACES],
     n: usize,
     x: usize,
     y: usize,
 ) -> Joining
-    requires { ⌜ TypeClasses (now up) (now kind) ⌝ ∗ ⌜ Parts (now kids) ⌝ ∗ ⌜ Room (now up) (now left) (now right) n ⌝ ∗ ⌜ (x < 329) × (y < 329) ⌝ }
-    ensures { λ r. ⌜ Answered (now (kids .entry)) (now (up .entry)) (now (kind .entry)) (now (left .entry)) (now (right .entry)) (now (up .exit)) (now (kind .exit)) (now (left .exit)) (now (right .exit)) n (Same x y) r ⌝ ∗ ⌜ ((m : ℕ) → x < m → y < m → Confined m (now (kids .entry)) (now (up .entry)) (now (kind .entry)) (now (left .entry)) (now (right .entry)) (now (up .exit)) (now (kind .exit)) (now (left .exit)) (now (right .exit)) n r) ⌝ }
+    requires { ⌜ TypeClasses (typesOf (now typeparent) (now kind)) ⌝ ∗ ⌜ Parts (now kids) ⌝ ∗ ⌜ PairRoom (now typeparent) (notesOf (now left) (now right)) n ⌝ ∗ ⌜ (x < nodes) × (y < nodes) ⌝ }
+    ensures { λ r. ⌜ Enforces (now (kids .entry)) (typesOf (now (typeparent .entry)) (now (kind .entry))) (notesOf (now (left .entry)) (now (right .entry))) (typesOf (now (typeparent .exit)) (now (kind .exit))) (notesOf (now (left .exit)) (now (right .exit))) n (Same x y) r ⌝
+        ∗ ⌜ ((m : ℕ) → x < m → y < m → Confined m (now (kids .entry)) (typesOf (now (typeparent .entry)) (now (kind .entry))) (notesOf (now (left .entry)) (now (right .entry))) (typesOf (now (typeparent .exit)) (now (kind .exit))) (notesOf (now (left .exit)) (now (right .exit))) n r) ⌝ }
 {
-    if !can_close(up, kind, x, y) {
-        return unification::unify(up, kind, kids, left, right, n, x, y);
+    if !can_close(typeparent, kind, x, y) {
+        return unification::unify(typeparent, kind, kids, left, right, n, x, y);
     }
-    let up_before = *up;
+    let typeparent_before = *typeparent;
     let kind_before = *kind;
-    match unification::unify(up, kind, kids, left, right, n, x, y) {
+    match unification::unify(typeparent, kind, kids, left, right, n, x, y) {
         Joining::Pairs(m) => {
-            if occurs::finite_from(up, kind, kids, x) {
+            if occurs::finite_from(typeparent, kind, kids, x) {
                 return Joining::Pairs(m);
             }
         }
         Joining::Clash => {}
         Joining::Lost => {}
     }
-    *up = up_before;
+    *typeparent = typeparent_before;
     *kind = kind_before;
     Joining::Clash
 }
 
 // Makes an unknown root the arrow of row i, unless the row's argument is an arrow that would contain it.
 fn bind(
-    up: &[u16; 329],
-    kind: &mut [u16; 329],
-    kids: &[u16; 1280],
+    typeparent: &[u16; NODES],
+    kind: &mut [u16; NODES],
+    kids: &[u16; PART_PLACES],
     i: usize,
     function: usize,
     argument: usize,
 ) -> bool
-    requires { ⌜ TypeClasses (now up) (now kind) ⌝ ∗ ⌜ Parts (now kids) ⌝ ∗ ⌜ (i < 256) × (argument < 329) × UnknownRoot (now up) (now kind) function ⌝ }
-    ensures { λ r. ⌜ Bound (now (kids .entry)) (now (up .entry)) (now (kind .entry)) (now (kind .exit)) function (i + 64) r ⌝ }
+    requires { ⌜ TypeClasses (typesOf (now typeparent) (now kind)) ⌝ ∗ ⌜ Parts (now kids) ⌝ ∗ ⌜ (i < 256) × (argument < nodes) × UnknownRoot (typesOf (now typeparent) (now kind)) function ⌝ }
+    ensures { λ r. ⌜ Bound (now (kids .entry)) (now (typeparent .entry)) (now (kind .entry)) (now (kind .exit)) function (rowType i) r ⌝ }
 {
-    kind[function] = i as u16 + 66;
-    if kind[forest::find(up, argument)] < 2 {
+    kind[function] = layout::arrow(layout::row_type(i));
+    if kind[forest::find(typeparent, argument)] < FIRST_ARROW {
         return true;
     }
-    if occurs::finite_from(up, kind, kids, argument) {
+    if occurs::finite_from(typeparent, kind, kids, argument) {
         return true;
     }
-    kind[function] = 0;
+    kind[function] = UNKNOWN;
     false
 }
 
 // The equation of an APP row. A function that is unknown becomes the arrow of the row. Where it is an arrow, the row's own node, which is new, is put
 // under the arrow's result, and the row's argument made one with the arrow's.
 fn apply(
-    up: &mut [u16; 329],
-    kind: &mut [u16; 329],
-    kids: &[u16; 1280],
-    left: &mut [u16; 704],
-    right: &mut [u16; 704],
+    typeparent: &mut [u16; NODES],
+    kind: &mut [u16; NODES],
+    kids: &[u16; PART_PLACES],
+    left: &mut [u16; PAIR_PLACES],
+    right: &mut [u16; PAIR_PLACES],
     i: usize,
     f: usize,
     a: usize,
 ) -> Joining
-    requires { ⌜ TypeClasses (now up) (now kind) ⌝ ∗ ⌜ Parts (now kids) ⌝ ∗ ⌜ (i < 256) × (f < i) × (a < i) × Describes (now kids) i (App f a) 0 0 ⌝ ∗ ⌜ Unused (i + 64) (now up) (now kind) (now kids) ⌝ }
-    ensures { λ r. ⌜ Answered (now (kids .entry)) (now (up .entry)) (now (kind .entry)) (now (left .entry)) (now (right .entry)) (now (up .exit)) (now (kind .exit)) (now (left .exit)) (now (right .exit)) 0 (RowHolds i (App f a) 0 0) r ⌝ ∗ ⌜ Confined (i + 1 + 64) (now (kids .entry)) (now (up .entry)) (now (kind .entry)) (now (left .entry)) (now (right .entry)) (now (up .exit)) (now (kind .exit)) (now (left .exit)) (now (right .exit)) 0 r ⌝ }
+    requires { ⌜ TypeClasses (typesOf (now typeparent) (now kind)) ⌝
+        ∗ ⌜ Parts (now kids) ⌝
+        ∗ ⌜ (i < 256) × (f < i) × (a < i) × Describes (now kids) i (App f a) 0 0 ⌝
+        ∗ ⌜ Unused (rowType i) (typesOf (now typeparent) (now kind)) (now kids) ⌝ }
+    ensures { λ r. ⌜ Enforces (now (kids .entry)) (typesOf (now (typeparent .entry)) (now (kind .entry))) (notesOf (now (left .entry)) (now (right .entry))) (typesOf (now (typeparent .exit)) (now (kind .exit))) (notesOf (now (left .exit)) (now (right .exit))) 0 (RowHolds i (App f a) 0 0) r ⌝
+        ∗ ⌜ Confined (rowType (i + 1)) (now (kids .entry)) (typesOf (now (typeparent .entry)) (now (kind .entry))) (notesOf (now (left .entry)) (now (right .entry))) (typesOf (now (typeparent .exit)) (now (kind .exit))) (notesOf (now (left .exit)) (now (right .exit))) 0 r ⌝ }
 {
-    let function = forest::root(up, f + 64);
-    let k = kind[function] as usize;
-    if k == 0 {
-        if bind(up, kind, kids, i, function, a + 64) {
+    let function = forest::root(typeparent, layout::row_type(f));
+    let k = kind[function];
+    if k == UNKNOWN {
+        if bind(typeparent, kind, kids, i, function, layout::row_type(a)) {
             return Joining::Pairs(0);
         }
         return Joining::Clash;
     }
-    if k == 1 {
+    if k == INT {
         return Joining::Clash;
     }
-    let d = k - 2;
-    forest::put_under_root(up, i + 64, graph::part(kids, d, 3));
-    let one = unification::note(left, right, 0, a + 73, graph::part(kids, d, 0));
-    let two = unification::note(left, right, one, i + 73, graph::part(kids, d, 2));
+    let d = k as usize - FIRST_ARROW as usize;
+    forest::put_under_root(typeparent, layout::row_type(i), graph::part(kids, d, 3));
+    let one = unification::note(
+        left,
+        right,
+        0,
+        layout::row_qualifier(a),
+        graph::part(kids, d, 0),
+    );
+    let two = unification::note(
+        left,
+        right,
+        one,
+        layout::row_qualifier(i),
+        graph::part(kids, d, 2),
+    );
     unify_kept(
-        up,
+        typeparent,
         kind,
         kids,
         left,
         right,
         two,
-        a + 64,
+        layout::row_type(a),
         graph::part(kids, d, 1),
     )
 }
 
 // An APP row: its function is the arrow from its argument to itself.
 fn app_row(
-    rule: &[u8; 88],
-    parent: &mut [u16; 329],
-    bound: &mut [u8; 329],
-    up: &mut [u16; 329],
-    kind: &mut [u16; 329],
-    kids: &[u16; 1280],
-    left: &mut [u16; 704],
-    right: &mut [u16; 704],
+    rule: &[u8; RULE],
+    qualifierparent: &mut [u16; NODES],
+    bound: &mut [u8; NODES],
+    typeparent: &mut [u16; NODES],
+    kind: &mut [u16; NODES],
+    kids: &[u16; PART_PLACES],
+    left: &mut [u16; PAIR_PLACES],
+    right: &mut [u16; PAIR_PLACES],
     i: usize,
     f: usize,
     a: usize,
 ) -> Verdict
-    requires { ⌜ TypeClasses (now up) (now kind) ⌝ ∗ ⌜ Parts (now kids) ⌝ ∗ ⌜ Classes (now rule) (now parent) (now bound) ⌝ ∗ ⌜ (i < 256) × (f < i) × (a < i) × Describes (now kids) i (App f a) 0 0 ⌝ ∗ ⌜ Ready (now rule) i (now kids) (now up) (now kind) (now parent) (now bound) ⌝ }
-    ensures { λ r. ⌜ Stepped (now (rule .entry)) i (now (kids .entry)) (now (up .entry)) (now (kind .entry)) (now (parent .entry)) (now (bound .entry)) (now (up .exit)) (now (kind .exit)) (now (parent .exit)) (now (bound .exit)) (RowHolds i (App f a) 0 0) (RowFits (now (rule .entry)) (App f a)) r ⌝ }
+    requires { ⌜ TypeClasses (typesOf (now typeparent) (now kind)) ⌝
+        ∗ ⌜ Parts (now kids) ⌝
+        ∗ ⌜ Classes (now rule) (qualifiersOf (now qualifierparent) (now bound)) ⌝
+        ∗ ⌜ (i < 256) × (f < i) × (a < i) × Describes (now kids) i (App f a) 0 0 ⌝
+        ∗ ⌜ Ready (now rule) i (now kids) (typesOf (now typeparent) (now kind)) (qualifiersOf (now qualifierparent) (now bound)) ⌝ }
+    ensures { λ r. ⌜ Stepped (now (rule .entry)) i (now (kids .entry))
+        (typesOf (now (typeparent .entry)) (now (kind .entry))) (qualifiersOf (now (qualifierparent .entry)) (now (bound .entry)))
+        (typesOf (now (typeparent .exit)) (now (kind .exit))) (qualifiersOf (now (qualifierparent .exit)) (now (bound .exit))) (RowHolds i (App f a) 0 0) (RowFits (now (rule .entry)) (App f a)) r ⌝ }
 {
-    match apply(up, kind, kids, left, right, i, f, a) {
+    match apply(typeparent, kind, kids, left, right, i, f, a) {
         Joining::Pairs(n) => {
-            if !qualifiers::unite_all(rule, parent, bound, left, right, n) {
+            if !qualifiers::unite_all(rule, qualifierparent, bound, left, right, n) {
                 return Verdict::Apart;
             }
             if qualifiers::within_bounds(rule, bound) {
@@ -217,32 +268,44 @@ fn app_row(
 // Takes row i into the state; the arrays hold the nodes of the parameters. Types come before qualifiers, and qualifiers before bounds: 21 is before
 // 22, and 22 before 23.
 pub fn step(
-    rule: &[u8; 88],
-    parent: &mut [u16; 329],
-    bound: &mut [u8; 329],
-    up: &mut [u16; 329],
-    kind: &mut [u16; 329],
-    kids: &[u16; 1280],
-    left: &mut [u16; 704],
-    right: &mut [u16; 704],
+    rule: &[u8; RULE],
+    qualifierparent: &mut [u16; NODES],
+    bound: &mut [u8; NODES],
+    typeparent: &mut [u16; NODES],
+    kind: &mut [u16; NODES],
+    kids: &[u16; PART_PLACES],
+    left: &mut [u16; PAIR_PLACES],
+    right: &mut [u16; PAIR_PLACES],
     i: usize,
     term: Term,
-    qualifiers: &[u8; 64],
-    typerows: &[u16; 64],
+    qualifiers: &[u8; PARAMS],
+    typerows: &[u16; PARAMS],
 ) -> Verdict
-    requires { ⌜ TypeClasses (now up) (now kind) ⌝ ∗ ⌜ Parts (now kids) ⌝ ∗ ⌜ Classes (now rule) (now parent) (now bound) ⌝ ∗ ⌜ RowStands i term (named (now qualifiers) term) (named (now typerows) term) × Describes (now kids) i term (named (now qualifiers) term) (named (now typerows) term) ⌝ ∗ ⌜ Ready (now rule) i (now kids) (now up) (now kind) (now parent) (now bound) ⌝ }
-    ensures { λ r. ⌜ Stepped (now (rule .entry)) i (now (kids .entry)) (now (up .entry)) (now (kind .entry)) (now (parent .entry)) (now (bound .entry)) (now (up .exit)) (now (kind .exit)) (now (parent .exit)) (now (bound .exit)) (RowHolds i term (named (now (qualifiers .entry)) term) (named (now (typerows .entry)) term)) (RowFits (now (rule .entry)) term) r ⌝ }
+    requires { ⌜ TypeClasses (typesOf (now typeparent) (now kind)) ⌝
+        ∗ ⌜ Parts (now kids) ⌝
+        ∗ ⌜ Classes (now rule) (qualifiersOf (now qualifierparent) (now bound)) ⌝
+        ∗ ⌜ RowStands i term (nodeNamed (now qualifiers) term) (nodeNamed (now typerows) term) × Describes (now kids) i term (nodeNamed (now qualifiers) term) (nodeNamed (now typerows) term) ⌝
+        ∗ ⌜ Ready (now rule) i (now kids) (typesOf (now typeparent) (now kind)) (qualifiersOf (now qualifierparent) (now bound)) ⌝ }
+    ensures { λ r. ⌜ Stepped (now (rule .entry)) i (now (kids .entry))
+        (typesOf (now (typeparent .entry)) (now (kind .entry))) (qualifiersOf (now (qualifierparent .entry)) (now (bound .entry)))
+        (typesOf (now (typeparent .exit)) (now (kind .exit))) (qualifiersOf (now (qualifierparent .exit)) (now (bound .exit))) (RowHolds i term (nodeNamed (now (qualifiers .entry)) term) (nodeNamed (now (typerows .entry)) term)) (RowFits (now (rule .entry)) term) r ⌝ }
 {
     match term {
         Term::Lam(_, _) => {
-            known_row(parent, kind, i, 0, i as u16 + 66);
+            known_row(
+                qualifierparent,
+                kind,
+                i,
+                0,
+                layout::arrow(layout::row_type(i)),
+            );
             Verdict::Fine
         }
         Term::App(f, a) => app_row(
             rule,
-            parent,
+            qualifierparent,
             bound,
-            up,
+            typeparent,
             kind,
             kids,
             left,
@@ -251,19 +314,37 @@ pub fn step(
             f as usize,
             a as usize,
         ),
-        Term::Op(o, l, r) => op_row(rule, parent, bound, up, kind, i, o, l as usize, r as usize),
+        Term::Op(o, l, r) => op_row(
+            rule,
+            qualifierparent,
+            bound,
+            typeparent,
+            kind,
+            i,
+            o,
+            l as usize,
+            r as usize,
+        ),
         Term::Var(p) => {
-            forest::put_under_root(up, i + 64, typerows[p as usize] as usize);
-            forest::put_under_root(parent, i + 73, qualifiers[p as usize] as usize);
+            forest::put_under_root(
+                typeparent,
+                layout::row_type(i),
+                typerows[p as usize] as usize,
+            );
+            forest::put_under_root(
+                qualifierparent,
+                layout::row_qualifier(i),
+                qualifiers[p as usize] as usize,
+            );
             Verdict::Fine
         }
         // Under its own node a literal's qualifier is a class of its own.
         Term::Num(_) => {
-            known_row(parent, kind, i, i + 73, 1);
+            known_row(qualifierparent, kind, i, layout::row_qualifier(i), INT);
             Verdict::Fine
         }
         Term::Enc(s, _) => {
-            known_row(parent, kind, i, s as usize, 1);
+            known_row(qualifierparent, kind, i, s as usize, INT);
             Verdict::Fine
         }
     }

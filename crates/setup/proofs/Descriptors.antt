@@ -6,6 +6,7 @@ use mathlib.Core.Path.{_≡_, refl, sym, ap, subst, _∙_}
 use lib.ListN.{length, take, length-take}
 use lib.Seq.{getD-take}
 use borrow.Author.Count.{below-more}
+use Rattle.layout.specs.Layout.{rowType}
 use Rattle.model.specs.Machine.{Machine, noTypeRow, typeAt, formIn}
 use Rattle.scheme.specs.Schemes.{words}
 use Rattle.scheme.proofs.Schemes.{sound-few}
@@ -47,7 +48,7 @@ forms-more types kids kids′ x only here earlier =
 pub forms-kept-none : (kids : List ℕ) → FormsKept kids kids
 forms-kept-none kids x j below h = refl
 
-pub forms-kept-more : (kids kids′ kids″ : List ℕ) (i : ℕ) → FormsKept kids kids′ → Only (i + 64) kids′ kids″ → FormsKept kids kids″
+pub forms-kept-more : (kids kids′ kids″ : List ℕ) (i : ℕ) → FormsKept kids kids′ → Only (rowType i) kids′ kids″ → FormsKept kids kids″
 forms-kept-more kids kids′ kids″ i kept only x j below h = only .others x j (λ e. omega arith) h ∙ kept x j below h
 
 -- What makes the parts of a row's descriptor nodes, from what the row asks.

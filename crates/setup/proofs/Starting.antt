@@ -9,18 +9,20 @@ use lib.ListN.{length, getD, set, take, length-set, length-take, replicate, leng
 use lib.Seq.{getD-set-same, getD-set-other, getD-take}
 use borrow.Author.Count.{below-none, below-more}
 use borrow.Author.Tests.{lt-ltb, le-ltb, ltb-true, ltb-false}
+use Rattle.graph.specs.Types.{typesOf}
+use Rattle.layout.specs.Layout.{nodes}
 use Rattle.forest.proofs.Links.{by-eq}
 use Rattle.model.specs.Machine.{Machine, noTypeRow, noParam, formIn, paramIn}
 use Rattle.model.specs.declared.TypeRow.{TypeRow}
 use Rattle.model.specs.declared.Param.{Param}
-use Rattle.qualifiers.specs.Classes.{boundAt}
+use Rattle.qualifiers.specs.Classes.{boundAt, qualifiersOf}
 use Rattle.setup.specs.Started.{formKind, startKind, Started}
 use Rattle.setup.specs.Passes.{SelfRooted, FirstHold, Kinds}
 
-pub rooted-none : SelfRooted 0 (replicate 329 0)
-rooted-none = record { size = length-replicate {A = ℕ} 329 0; own = below-none _ }
+pub rooted-none : SelfRooted 0 (replicate nodes 0)
+rooted-none = record { size = length-replicate {A = ℕ} nodes 0; own = below-none _ }
 
-pub rooted-more : (p : List ℕ) (n : ℕ) → n < 329 → SelfRooted n p → SelfRooted (n + 1) (set p n n)
+pub rooted-more : (p : List ℕ) (n : ℕ) → n < nodes → SelfRooted n p → SelfRooted (n + 1) (set p n n)
 rooted-more p n h rooted =
     record {
       size = length-set p n n ∙ rooted .size;
@@ -69,15 +71,15 @@ params-hold f params count l none hold p below = hold .at p below ∙ go (ltb p 
 
 module _ (types : List TypeRow) (count top : ℕ) {u k p b : List ℕ} where
   pub started :
-      length types ≡ 64 → count ≤ 64 → SelfRooted 329 u → Kinds types count k → SelfRooted 329 p → b ≡ replicate 329 top →
-      (m : Machine) → m .types ≡ take count types → Started m top u k p b
+      length types ≡ 64 → count ≤ 64 → SelfRooted nodes u → Kinds types count k → SelfRooted nodes p → b ≡ replicate nodes top →
+      (m : Machine) → m .types ≡ take count types → Started m top (typesOf u k) (qualifiersOf p b)
   started whole fits u-roots kinds p-roots unrestricted m e =
       record {
-        sizes = (u-roots .size, kinds .size, p-roots .size, ap length unrestricted ∙ length-replicate {A = ℕ} 329 top);
+        sizes = (u-roots .size, kinds .size, p-roots .size, ap length unrestricted ∙ length-replicate {A = ℕ} nodes top);
         type-roots = u-roots .own;
         kinds = λ x h. kinds .at x h ∙ same x;
         qualifier-roots = p-roots .own;
-        bounds = λ x h. ap (λ (l : List ℕ). boundAt l x) unrestricted ∙ getD-replicate {A = ℕ} 329 x top 0 h;
+        bounds = λ x h. ap (λ (l : List ℕ). boundAt l x) unrestricted ∙ getD-replicate {A = ℕ} nodes x top 0 h;
       }
     where
       counted : length (m .types) ≡ count

@@ -1,23 +1,35 @@
 // The slots of a report, filled from the words and kinds of the nodes.
+use layout::NODES;
+use model::PARAMS;
 use model::Param;
+use model::Program;
+use model::TERMS;
+use model::TYPES;
 use model::TypeForm;
 use model::TypeRow;
+use model::VARIABLES;
+use report::Codes;
 use scheme::Standing;
 ghost use mathlib.Core.Path.{_≡_};
 ghost use Prim.Native.Nat.{ℕ, _+_, _<_, _≤_};
 ghost use lib.Dec.{eqb};
 ghost use lib.ListN.{length, getD, set, take};
+ghost use Rattle.layout.specs.Layout.{rowType, rowQualifier, nodes};
 ghost use Rattle.model.specs.Machine.{Machine, paramIn};
 ghost use Rattle.model.specs.Inference.{ruling};
 ghost use Rattle.model.specs.WellFormed.{WellFormed};
-ghost use Rattle.readings.specs.Nodes.{shapeOf};
-ghost use Rattle.report.specs.Codes.{codesOf, shapeOfCode};
+ghost use Rattle.readings.specs.Nodes.{kindShape};
+ghost use Rattle.report.specs.Codes.{shapeOfCode};
+ghost use Rattle.readings.specs.Programs.{Counted, Holds};
 ghost use Rattle.slots.specs.Filling.{inForm, inTypes, inParams, VariablesFilled, SlotsFilled};
 ghost use Rattle.slots.specs.Filled.{Filled};
 
+// The mark of a variable that the report does not list: no word has this code.
+const UNLISTED: u8 = 9;
+
 // The shape's code of a kind.
 fn shape_code(kind: u16) -> u8
-    ensures { λ r. ⌜ shapeOfCode r ≡ shapeOf kind ⌝ }
+    ensures { λ r. ⌜ shapeOfCode r ≡ kindShape kind ⌝ }
 {
     match kind {
         0 => 2,
@@ -28,7 +40,7 @@ fn shape_code(kind: u16) -> u8
 
 // The shape's code of a type's node; past the nodes that of an unknown kind.
 fn shape_at(kinds: &[u16], node: usize) -> u8
-    ensures { λ r. ⌜ shapeOfCode r ≡ shapeOf (getD (now (kinds .entry)) node 0) ⌝ }
+    ensures { λ r. ⌜ shapeOfCode r ≡ kindShape (getD (now (kinds .entry)) node 0) ⌝ }
 {
     if node < kinds.len() {
         return shape_code(kinds[node]);
@@ -45,7 +57,7 @@ fn put(list: &mut [u8], at: usize, code: u8)
 }
 
 // Fills the variable that a code names, if it names one: the codes from `first` on are the variables'.
-fn fill_variable(code: u8, first: usize, words: &[u8; 329], variables: &mut [u8; 64])
+fn fill_variable(code: u8, first: usize, words: &[u8; NODES], variables: &mut [u8; VARIABLES])
     requires { ⌜ first ≤ 9 ⌝ }
     ensures { λ _. ⌜ VariablesFilled first (λ c. eqb c code) (now (words .entry)) (now (variables .entry)) (now (variables .exit)) ⌝ }
 {
@@ -57,7 +69,12 @@ fn fill_variable(code: u8, first: usize, words: &[u8; 329], variables: &mut [u8;
 }
 
 // Fills the variables of a type row's form.
-fn fill_variables_of_form(form: TypeForm, first: usize, words: &[u8; 329], variables: &mut [u8; 64])
+fn fill_variables_of_form(
+    form: TypeForm,
+    first: usize,
+    words: &[u8; NODES],
+    variables: &mut [u8; VARIABLES],
+)
     requires { ⌜ first ≤ 9 ⌝ }
     ensures { λ _. ⌜ VariablesFilled first (inForm form) (now (words .entry)) (now (variables .entry)) (now (variables .exit)) ⌝ }
 {
@@ -73,11 +90,11 @@ fn fill_variables_of_form(form: TypeForm, first: usize, words: &[u8; 329], varia
 
 // Fills the variables of the first type rows.
 fn fill_variables_of_types(
-    types: [TypeRow; 64],
+    types: [TypeRow; TYPES],
     count: usize,
     first: usize,
-    words: &[u8; 329],
-    variables: &mut [u8; 64],
+    words: &[u8; NODES],
+    variables: &mut [u8; VARIABLES],
 )
     requires { ⌜ (count ≤ 64) × (first ≤ 9) ⌝ }
     ensures { λ _. ⌜ VariablesFilled first (inTypes (take count types)) (now (words .entry)) (now (variables .entry)) (now (variables .exit)) ⌝ }
@@ -93,11 +110,11 @@ fn fill_variables_of_types(
 
 // Fills the variables that are the present qualifiers of the first parameters.
 fn fill_variables_of_params(
-    params: [Param; 64],
+    params: [Param; PARAMS],
     count: usize,
     first: usize,
-    words: &[u8; 329],
-    variables: &mut [u8; 64],
+    words: &[u8; NODES],
+    variables: &mut [u8; VARIABLES],
 )
     requires { ⌜ (count ≤ 64) × (first ≤ 9) ⌝ }
     ensures { λ _. ⌜ VariablesFilled first (inParams (take count params)) (now (words .entry)) (now (variables .entry)) (now (variables .exit)) ⌝ }
@@ -112,22 +129,22 @@ fn fill_variables_of_params(
 
 // Fills the slots of the first parameters.
 fn fill_params(
-    params: [Param; 64],
+    params: [Param; PARAMS],
     count: usize,
-    words: &[u8; 329],
-    kinds: &[u16; 329],
-    param_words: &mut [u8; 64],
-    param_shapes: &mut [u8; 64],
+    words: &[u8; NODES],
+    kinds: &[u16; NODES],
+    paramwords: &mut [u8; PARAMS],
+    paramshapes: &mut [u8; PARAMS],
 )
     requires { ⌜ count ≤ 64 ⌝ }
-    ensures { λ _. ⌜ SlotsFilled count (λ p. paramIn params p .qualifier) (λ p. paramIn params p .typerow) (now (words .entry)) (now (kinds .entry)) (now («param_words» .exit)) (now («param_shapes» .exit)) ⌝ }
+    ensures { λ _. ⌜ SlotsFilled count (λ p. paramIn params p .qualifier) (λ p. paramIn params p .typerow) (now (words .entry)) (now (kinds .entry)) (now (paramwords .exit)) (now (paramshapes .exit)) ⌝ }
 {
     let mut p = 0;
     while p < count {
         let param = params[p];
         let qualifier = param.qualifier as usize;
-        put(param_words, p, words[qualifier]);
-        put(param_shapes, p, shape_at(kinds, param.typerow as usize));
+        put(paramwords, p, words[qualifier]);
+        put(paramshapes, p, shape_at(kinds, param.typerow as usize));
         p += 1;
     }
 }
@@ -135,44 +152,56 @@ fn fill_params(
 // Fills the slots of the first term rows.
 fn fill_rows(
     count: usize,
-    words: &[u8; 329],
-    kinds: &[u16; 329],
-    row_words: &mut [u8; 256],
-    row_shapes: &mut [u8; 256],
+    words: &[u8; NODES],
+    kinds: &[u16; NODES],
+    rowwords: &mut [u8; TERMS],
+    rowshapes: &mut [u8; TERMS],
 )
     requires { ⌜ count ≤ 256 ⌝ }
-    ensures { λ _. ⌜ SlotsFilled count (λ i. i + 73) (λ i. i + 64) (now (words .entry)) (now (kinds .entry)) (now («row_words» .exit)) (now («row_shapes» .exit)) ⌝ }
+    ensures { λ _. ⌜ SlotsFilled count (λ i. rowQualifier i) (λ i. rowType i) (now (words .entry)) (now (kinds .entry)) (now (rowwords .exit)) (now (rowshapes .exit)) ⌝ }
 {
     let mut i = 0;
     while i < count {
-        put(row_words, i, words[i + 73]);
-        put(row_shapes, i, shape_at(kinds, i + 64));
+        put(rowwords, i, words[layout::row_qualifier(i)]);
+        put(rowshapes, i, shape_at(kinds, layout::row_type(i)));
         i += 1;
     }
 }
 
-// Fills the codes of every slot: a variable that stands in no type row and no parameter has 9, which is no word's code.
-pub fn fill(
-    types: [TypeRow; 64],
-    typecount: usize,
-    params: [Param; 64],
-    paramcount: usize,
-    rows: usize,
-    first: usize,
-    words: &[u8; 329],
-    kinds: &[u16; 329],
-    variables: &mut [u8; 64],
-    param_words: &mut [u8; 64],
-    param_shapes: &mut [u8; 64],
-    row_words: &mut [u8; 256],
-    row_shapes: &mut [u8; 256],
-)
-    requires { ⌜ (typecount ≤ 64) × (paramcount ≤ 64) × (rows ≤ 256) × (first ≤ 9) ⌝ ∗ ⌜ ((x : ℕ) → x < 329 → getD (now words) x 0 < first) ⌝ }
-    ensures { λ _. ⌜ ((m : Machine) → ruling m .words ≡ first → m .types ≡ take typecount types → m .params ≡ take paramcount params → length (m .terms) ≡ rows → WellFormed m → Filled m (λ x. getD (now (words .entry)) x 0) (λ x. getD (now (kinds .entry)) x 0) (codesOf (now (variables .exit)) (now («param_words» .exit)) (now («param_shapes» .exit)) (now («row_words» .exit)) (now («row_shapes» .exit)))) ⌝ }
+// The codes of every slot: a variable that stands in no type row and no parameter has UNLISTED.
+pub fn fill(program: Program, first: usize, words: &[u8; NODES], kinds: &[u16; NODES]) -> Codes
+    requires { ⌜ Counted program × (first ≤ 9) ⌝ ∗ ⌜ ((x : ℕ) → x < nodes → getD (now words) x 0 < first) ⌝ }
+    ensures { λ r. ⌜ ((m : Machine) → ruling m .words ≡ first → Holds m program → WellFormed m → Filled m (λ x. getD (now (words .entry)) x 0) (λ x. getD (now (kinds .entry)) x 0) r) ⌝ }
 {
-    *variables = [9; 64];
-    fill_variables_of_types(types, typecount, first, words, variables);
-    fill_variables_of_params(params, paramcount, first, words, variables);
-    fill_params(params, paramcount, words, kinds, param_words, param_shapes);
-    fill_rows(rows, words, kinds, row_words, row_shapes);
+    let types = program.types;
+    let params = program.params;
+    let mut variables = [UNLISTED; VARIABLES];
+    let mut paramwords = [0; PARAMS];
+    let mut paramshapes = [0; PARAMS];
+    let mut rowwords = [0; TERMS];
+    let mut rowshapes = [0; TERMS];
+    fill_variables_of_types(types, program.typecount, first, words, &mut variables);
+    fill_variables_of_params(params, program.paramcount, first, words, &mut variables);
+    fill_params(
+        params,
+        program.paramcount,
+        words,
+        kinds,
+        &mut paramwords,
+        &mut paramshapes,
+    );
+    fill_rows(
+        program.termcount,
+        words,
+        kinds,
+        &mut rowwords,
+        &mut rowshapes,
+    );
+    Codes {
+        variables,
+        paramwords,
+        paramshapes,
+        rowwords,
+        rowshapes,
+    }
 }

@@ -1,17 +1,19 @@
 -- A run that went through all rows, settled and filled, places the program.
-use Prim.Native.Nat.{ℕ, _≤_}
+use Prim.Native.Nat.{ℕ}
 use native.Mathlib.Omega.{arith}
 use mathlib.Core.List.{List}
-use mathlib.Core.Path.{_≡_, sym, ap, subst, _∙_}
-use lib.ListN.{length, take, length-take}
+use mathlib.Core.Path.{_≡_, refl, sym, ap, subst, _∙_}
+use lib.ListN.{length, length-take}
 use Rattle.model.specs.Machine.{Machine}
 use Rattle.model.specs.Inference.{ruling, Slot, Listed, Shape, ShapeSays, GreatestTyping}
-use Rattle.model.specs.declared.TermRow.{TermRow}
-use Rattle.graph.specs.Types.{kindAt, Parts}
-use Rattle.qualifiers.specs.Classes.{boundAt, Greatest}
-use Rattle.occurs.specs.Kinds.{Settled}
+use Rattle.model.specs.declared.Program.{Program}
+use Rattle.graph.specs.Types.{kindAt, Parts, typesOf}
+use Rattle.qualifiers.specs.Classes.{boundAt, Greatest, qualifiersOf}
+use Rattle.occurs.specs.Kinds.{KindsSettled}
+use Rattle.scheme.specs.Schemes.{SchemeTable}
+use Rattle.readings.specs.Programs.{Counted, Holds, machineOf}
 use Rattle.readings.proofs.Greatest.{solved-greatest}
-use Rattle.report.specs.Codes as Codes
+use Rattle.report.specs.declared.Codes.{Codes}
 use Rattle.slots.specs.Filled.{Filled}
 use Rattle.solver.specs.State.{After}
 use Rattle.solver.specs.Runs.{Governed, Ended, Refuses, Solves}
@@ -36,17 +38,18 @@ greatest-as m same-word same-shape a =
       );
     }
 
--- As many rows stand as the count says.
-pub counted : (terms : List TermRow) (termcount : ℕ) → length terms ≡ 256 → termcount ≤ 256 → termcount ≡ length (take termcount terms)
-counted terms termcount size few = sym (length-take termcount terms ∙ omega arith)
+-- A program of whole arrays is held by its machines, with as many rows as its count says.
+pub held : (T : SchemeTable) (program : Program) → length (program .terms) ≡ 256 → Counted program → Holds (machineOf T program) program
+held T program size few =
+    record { types = refl; params = refl; terms = refl; rows = length-take (program .termcount) (program .terms) ∙ omega (arith, few .terms) }
 
-pub placed : {R : List ℕ} {m : Machine} {kids u k p b : List ℕ} (b′ k′ : List ℕ) {rows : ℕ} {codes : Codes.Codes} → Governed R m → Parts kids → rows ≡ length (m .terms) →
-    Ended R m kids u k p b rows → Greatest R p b (boundAt b′) → Settled u k k′ → Filled m (boundAt b′) (kindAt k′) codes → Solves m codes Placed
+pub placed : {R : List ℕ} {m : Machine} {kids u k p b : List ℕ} (b′ k′ : List ℕ) {rows : ℕ} {codes : Codes} → Governed R m → Parts kids → rows ≡ length (m .terms) →
+    Ended R m kids (typesOf u k) (qualifiersOf p b) rows → Greatest R (qualifiersOf p b) (boundAt b′) → KindsSettled (typesOf u k) k′ → Filled m (boundAt b′) (kindAt k′) codes → Solves m codes Placed
 placed {R} {m} {kids} {u} {k} {p} {b} b′ k′ gov parts whole ended g settled filled =
     let solved =
-    state-solved m gov kids u k p b k′ (boundAt b′) parts (subst (λ (n : ℕ). After R m kids u k p b n) whole (ended .after)) (ended .finite) g settled in
+    state-solved m gov kids u k p b k′ (boundAt b′) parts (subst (λ (n : ℕ). After R m kids (typesOf u k) (qualifiersOf p b) n) whole (ended .after)) (ended .finite) g settled in
     (greatest-as m (filled .words) (filled .shapes) (solved-greatest m (gov .well-formed) R (gov .ruled) (boundAt b′) (kindAt k′) solved), filled .matches)
 
-pub refused : (m : Machine) (codes : Codes.Codes) (r : Answer) → Refuses m r → Solves m codes r
+pub refused : (m : Machine) (codes : Codes) (r : Answer) → Refuses m r → Solves m codes r
 refused m codes Placed none = absurd none
 refused m codes (Refused number row) refusal = refusal

@@ -6,6 +6,9 @@ use mathlib.Core.List.{List}
 use mathlib.Core.Path.{_≡_, refl, sym, ap, subst, subst₂}
 use lib.ListN.{length, take, length-take, List·getD-eq-default}
 use lib.Seq.{getD-take}
+use Rattle.layout.specs.Layout.{rowType, rowQualifier}
+use Rattle.qualifiers.specs.Classes.{qualifiersOf}
+use Rattle.graph.specs.Types.{typesOf}
 use Rattle.scheme.specs.Schemes.{SchemeTable, words}
 use Rattle.model.specs.Machine.{Machine, noParam, noTermRow, paramAt, termAt}
 use Rattle.model.specs.WellFormed.{WellFormed, TermStands}
@@ -13,36 +16,36 @@ use Rattle.model.specs.Typing.{Typable}
 use Rattle.model.specs.Strength.{whole}
 use Rattle.model.specs.Inference.{ruling, Refusal}
 use Rattle.model.proofs.Fewer.{typable-fewer}
-use Rattle.model.specs.declared.TypeRow.{TypeRow}
+use Rattle.model.specs.declared.Program.{Program}
 use Rattle.model.specs.declared.Param.{Param}
 use Rattle.model.specs.declared.Term.{Term}
 use Rattle.model.specs.declared.Term.the-variants.{Lam, App, Op, Var, Num, Enc}
 use Rattle.model.specs.declared.TermRow.{TermRow}
-use Rattle.readings.specs.Nodes.{parameterOf, named}
+use Rattle.readings.specs.Nodes.{parameterOf, nodeNamed}
 use Rattle.scheme.proofs.Schemes.{sound-few}
 use Rattle.readings.proofs.Lines.{lines-typable}
-use Rattle.setup.specs.Descriptors.{machineOf, rowQualifier, rowTyperow}
+use Rattle.readings.specs.Programs.{Counted, machineOf}
+use Rattle.setup.specs.Descriptors.{namedQualifier, namedTyperow}
 use Rattle.setup.specs.Passes.{ParamsNoted}
 use Rattle.setup.proofs.Descriptors.{names-place}
 use Rattle.rows.specs.Rows.{RowStands}
-use Rattle.solver.specs.Runs.{Governed, Fails, RowsOf, RowReady, Ran}
+use Rattle.solver.specs.Runs.{Governed, Fails, RowsOf, RowReady, RunAnswers}
 use Rattle.solver.specs.declared.Run.the-variants.{Whole}
 
 -- No rows at all: the lines alone have a typing.
-pub run-none : (R : List ℕ) (m : Machine) (kids u k p b : List ℕ) (rows : ℕ) → Governed R m → rows ≡ 0 → Ran R m kids u k p b rows Whole
+pub run-none : (R : List ℕ) (m : Machine) (kids u k p b : List ℕ) (rows : ℕ) → Governed R m → rows ≡ 0 → RunAnswers R m kids (typesOf u k) (qualifiersOf p b) rows Whole
 run-none R m kids u k p b rows gov e = (subst (λ (n : ℕ). Typable (whole (ruling m)) m n) (sym e) (lines-typable m (gov .well-formed) R (gov .ruled)), λ some. absurd (some e))
 
--- The first rows of the arrays are the machine's.
-pub rows-of : (R : List ℕ) (T : SchemeTable) (types : List TypeRow) (typecount : ℕ) (params : List Param) (paramcount : ℕ) (terms : List TermRow) (termcount rows : ℕ) {q ty : List ℕ} →
-    Governed R (machineOf T types typecount params paramcount terms termcount) → length terms ≡ 256 → termcount ≤ 256 → rows ≤ termcount → ParamsNoted (take paramcount params) q ty →
-    RowsOf R (machineOf T types typecount params paramcount terms termcount) q ty terms rows
-rows-of R T types typecount params paramcount terms termcount rows gov size few most noted =
+-- The first rows of the program are the machine's.
+pub rows-of : (R : List ℕ) (T : SchemeTable) (program : Program) (rows : ℕ) {q ty : List ℕ} → Governed R (machineOf T program) → length (program .terms) ≡ 256 → Counted program →
+    rows ≤ program .termcount → ParamsNoted (take (program .paramcount) (program .params)) q ty → RowsOf R (machineOf T program) q ty (program .terms) rows
+rows-of R T program rows gov size few most noted =
     record {
       governed = gov;
       noted = noted;
       same-term = λ i below. (
-        rw (length-take termcount terms) (omega arith),
-        ap (λ (row : TermRow). row .term) (getD-take termcount terms i noTermRow (omega arith)),
+        rw (length-take (program .termcount) (program .terms)) (omega (arith, few .terms)),
+        ap (λ (row : TermRow). row .term) (getD-take (program .termcount) (program .terms) i noTermRow (omega arith)),
       );
     }
 
@@ -57,16 +60,16 @@ stands-weaker w n i (Enc s x) few h st = (st .0, omega (arith, st .1))
 
 module _ {m : Machine} (wf : WellFormed m) where
   -- A parameter's nodes are nodes, also past the end of the list.
-  param-nodes : (p : ℕ) → (paramAt m p .qualifier < 73) × (paramAt m p .typerow < 64)
+  param-nodes : (p : ℕ) → (paramAt m p .qualifier < rowQualifier 0) × (paramAt m p .typerow < rowType 0)
   param-nodes p = go (decLt p (length (m .params)))
     where
-      go : Dec (p < length (m .params)) → (paramAt m p .qualifier < 73) × (paramAt m p .typerow < 64)
+      go : Dec (p < length (m .params)) → (paramAt m p .qualifier < rowQualifier 0) × (paramAt m p .typerow < rowType 0)
       go (yes h) = (omega (arith, wf .params-stand p h .0, sound-few (wf .schemes-sound)), omega (arith, wf .params-stand p h .1, wf .types-fit))
       go (no n) =
           let none = List·getD-eq-default (m .params) noParam {n = p} (omega arith) in
           (omega (arith, ap (λ (d : Param). d .qualifier) none), omega (arith, ap (λ (d : Param). d .typerow) none))
 
-  row-stands : (i : ℕ) → i < length (m .terms) → RowStands i (termAt m i) (rowQualifier m i) (rowTyperow m i)
+  row-stands : (i : ℕ) → i < length (m .terms) → RowStands i (termAt m i) (namedQualifier m i) (namedTyperow m i)
   row-stands i h =
       record {
         in-list = omega (arith, wf .terms-fit);
@@ -80,12 +83,12 @@ module _ {m : Machine} (wf : WellFormed m) where
       let in-list = of .same-term i below .0 in
       let row = row-stands i in-list in
       let place = names-place 9 64 i (termAt m i) (omega arith) (row .stands) in
-      subst (λ (term : Term). RowStands i term (named q term) (named ty term)) (of .same-term i below .1)
+      subst (λ (term : Term). RowStands i term (nodeNamed q term) (nodeNamed ty term)) (of .same-term i below .1)
       (subst₂ (RowStands i (termAt m i)) (sym (of .noted .qualifier (parameterOf (termAt m i)) place)) (sym (of .noted .typerow (parameterOf (termAt m i)) place)) row)
 
 -- A row below the count is in the machine's list.
-pub in-terms : (terms : List TermRow) (termcount row : ℕ) → length terms ≡ 256 → termcount ≤ 256 → row < termcount → row < length (take termcount terms)
-in-terms terms termcount row size few below = rw (length-take termcount terms) (omega arith)
+pub in-terms : (program : Program) (row : ℕ) → length (program .terms) ≡ 256 → Counted program → row < program .termcount → row < length (take (program .termcount) (program .terms))
+in-terms program row size few below = rw (length-take (program .termcount) (program .terms)) (omega (arith, few .terms))
 
 -- The rows before a failing one are typable, so it is the least.
 pub refusal-of : (m : Machine) (number row : ℕ) → row < length (m .terms) → Fails m number row → Typable (whole (ruling m)) m row → Refusal (ruling m) m number row

@@ -7,6 +7,8 @@ use mathlib.Core.Path.{_≡_, refl, sym, ap, subst, _∙_}
 use lib.Dec.{ltb}
 use lib.ListN.{length}
 use borrow.Author.Tests.{lt-ltb, ltb-true}
+use Rattle.layout.specs.Kinds.{arrowKind}
+use Rattle.layout.specs.Layout.{nodes, descriptors}
 use Rattle.scheme.specs.Schemes.{words}
 use Rattle.scheme.specs.Rule.{topAt, Lattice}
 use Rattle.model.specs.Machine.{Machine, typeAt, paramAt}
@@ -15,9 +17,9 @@ use Rattle.model.specs.Typing.{Ty, int, arrow, TypeAgrees}
 use Rattle.model.specs.declared.TypeForm.{TypeForm}
 use Rattle.model.specs.declared.TypeForm.the-variants.{Int, Any, Arrow}
 use Rattle.forest.specs.Forest.{up, Linked}
-use Rattle.graph.specs.Types.{kindAt, arrowOf, TypeClasses}
+use Rattle.graph.specs.Types.{kindAt, arrowOf, TypeClasses, typesOf}
 use Rattle.graph.specs.Unused.{Within}
-use Rattle.qualifiers.specs.Classes.{Classes}
+use Rattle.qualifiers.specs.Classes.{Classes, qualifiersOf}
 use Rattle.occurs.proofs.Readings.{by-less}
 use Rattle.readings.specs.Nodes.{assignment, free}
 use Rattle.scheme.proofs.Schemes.{sound-few}
@@ -29,7 +31,7 @@ use Rattle.solver.specs.State.{After}
 use Rattle.solver.specs.Runs.{Governed}
 use Rattle.solver.proofs.Stops.{rule-lattice}
 
-module _ {R : List ℕ} {m : Machine} (gov : Governed R m) {kids u k p b : List ℕ} (described : Described m kids) (started : Started m (topAt R) u k p b) where
+module _ {R : List ℕ} {m : Machine} (gov : Governed R m) {kids u k p b : List ℕ} (described : Described m kids) (started : Started m (topAt R) (typesOf u k) (qualifiersOf p b)) where
   wf : WellFormed m
   wf = gov .well-formed
 
@@ -37,14 +39,14 @@ module _ {R : List ℕ} {m : Machine} (gov : Governed R m) {kids u k p b : List 
   lat = rule-lattice gov
 
   -- A node with a kind is a type row's.
-  row-kind : (x : ℕ) → x < 329 → 1 ≤ kindAt k x → (x < length (m .types)) × (kindAt k x ≡ formKind x (typeAt m x))
+  row-kind : (x : ℕ) → x < nodes → 1 ≤ kindAt k x → (x < length (m .types)) × (kindAt k x ≡ formKind x (typeAt m x))
   row-kind x h positive = go (ltb x (length (m .types))) refl
     where
       go : (t : Bool) → ltb x (length (m .types)) ≡ t → (x < length (m .types)) × (kindAt k x ≡ formKind x (typeAt m x))
       go true e = (ltb-true _ _ e, started .kinds x h ∙ rw e)
       go false e = let none : kindAt k x ≡ 0 = started .kinds x h ∙ rw e in absurd (omega arith)
 
-  linked : {A : Type 0} (l : List ℕ) (v : ℕ → A) → ((x : ℕ) → x < 329 → up l x ≡ x) → Linked l v
+  linked : {A : Type 0} (l : List ℕ) (v : ℕ → A) → ((x : ℕ) → x < nodes → up l x ≡ x) → Linked l v
   linked l v self x h = ap v (sym (self x h))
 
   -- One form's agreement, as its kind says it.
@@ -88,7 +90,7 @@ module _ {R : List ℕ} {m : Machine} (gov : Governed R m) {kids u k p b : List 
         result-qualifier = omega (arith, parts .result-qualifier, stands .2);
       }
 
-  classes-start : Classes R p b
+  classes-start : Classes R (qualifiersOf p b)
   classes-start =
       record {
         lattice = lat;
@@ -99,19 +101,19 @@ module _ {R : List ℕ} {m : Machine} (gov : Governed R m) {kids u k p b : List 
         sinks = λ x h. rw (started .qualifier-roots x h) (lat .reflexive _ (omega (arith, started .bounds x h, lat .top-code)));
       }
 
-  kinds-below : (x : ℕ) (form : TypeForm) → x < 64 → formKind x form < 322
+  kinds-below : (x : ℕ) (form : TypeForm) → x < 64 → formKind x form < arrowKind descriptors
   kinds-below x Int h = omega arith
   kinds-below x Any h = omega arith
   kinds-below x (Arrow q a q′ c) h = omega arith
 
-  start-below : (x : ℕ) → startKind m x < 322
+  start-below : (x : ℕ) → startKind m x < arrowKind descriptors
   start-below x = go (ltb x (length (m .types))) refl
     where
-      go : (t : Bool) → ltb x (length (m .types)) ≡ t → cond t (formKind x (typeAt m x)) 0 < 322
+      go : (t : Bool) → ltb x (length (m .types)) ≡ t → cond t (formKind x (typeAt m x)) 0 < arrowKind descriptors
       go true e = kinds-below x (typeAt m x) (omega (arith, ltb-true x (length (m .types)) e, wf .types-fit))
       go false e = omega arith
 
-  types-start : TypeClasses u k
+  types-start : TypeClasses (typesOf u k)
   types-start =
       record {
         forest = record { size = started .sizes .0; low = λ x h. omega (arith, started .type-roots x h) };
@@ -121,7 +123,7 @@ module _ {R : List ℕ} {m : Machine} (gov : Governed R m) {kids u k p b : List 
       }
 
   -- No term row has touched its nodes.
-  pub start-ready : Ready R 0 kids u k p b
+  pub start-ready : Ready R 0 kids (typesOf u k) (qualifiersOf p b)
   start-ready =
       record {
         types =
@@ -134,7 +136,7 @@ module _ {R : List ℕ} {m : Machine} (gov : Governed R m) {kids u k p b : List 
         within = λ c h. rw (started .bounds c (omega (arith, lat .few))) (lat .top-greatest c h);
       }
 
-  pub start-after : After R m kids u k p b 0
+  pub start-after : After R m kids (typesOf u k) (qualifiersOf p b) 0
   start-after =
       record {
         types = types-start;
@@ -154,7 +156,7 @@ module _ {R : List ℕ} {m : Machine} (gov : Governed R m) {kids u k p b : List 
         outof = λ t v reads link.
             record {
               types-agree = λ x h.
-                  let low : x < 329 = omega (arith, wf .types-fit) in
+                  let low : x < nodes = omega (arith, wf .types-fit) in
                   let same : kindAt k x ≡ formKind x (typeAt m x) = started .kinds x low ∙ rw (lt-ltb _ _ h) in
                   kind-agrees t v x (typeAt m x) h refl (λ e. reads .ints x low (same ∙ e)) (λ e. rw same at (reads .arrows x low (rw same e)));
               params-agree = λ q h. (sym (meaning-node m t v (paramAt m q .qualifier)), refl);

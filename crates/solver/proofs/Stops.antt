@@ -5,6 +5,8 @@ use mathlib.Core.Bool.{true}
 use mathlib.Core.List.{List}
 use mathlib.Core.Path.{_≡_, refl}
 use lib.ListN.{length}
+use Rattle.layout.specs.Readings.{Constant}
+use Rattle.layout.specs.Layout.{nodes}
 use Rattle.scheme.specs.Schemes.{words}
 use Rattle.scheme.specs.Rule.{wordsAt, under, Lattice}
 use Rattle.scheme.proofs.Rule.{lattice}
@@ -13,9 +15,9 @@ use Rattle.model.specs.Typing.{Ty, int, Typable}
 use Rattle.model.specs.Strength.{whole, unordered, erased}
 use Rattle.model.specs.Inference.{ruling, Cause, shapes, qualifiers, bounds}
 use Rattle.model.proofs.Weaker.{weaker-rules, whole-unordered, unordered-erased}
-use Rattle.graph.specs.Types.{Parts, Reads, Clashes, Intact}
+use Rattle.graph.specs.Types.{Parts, Reads, Clashes, Intact, typesOf}
 use Rattle.graph.specs.Search.{Finite}
-use Rattle.qualifiers.specs.Classes.{boundAt, Constant, Bounded}
+use Rattle.qualifiers.specs.Classes.{Bounded, Within, qualifiersOf}
 use Rattle.qualifiers.proofs.Readings.{some-reading, greatest-reading}
 use Rattle.occurs.proofs.Existence.{reading}
 use Rattle.occurs.proofs.Readings.{finite-of-reading}
@@ -23,7 +25,6 @@ use Rattle.scheme.proofs.Schemes.{sound-few}
 use Rattle.readings.proofs.Rows.{meets-fewer, meets-last, meets-more}
 use Rattle.readings.proofs.Strengths.{none-erased, none-unordered, none-whole, some-erased, some-unordered, some-whole}
 use Rattle.rows.specs.Steps.{Extended, Parted}
-use Rattle.readings.specs.Nodes as Nodes
 use Rattle.solver.specs.State.{After}
 use Rattle.solver.specs.Runs.{Governed}
 use Rattle.solver.proofs.Progress.{Row}
@@ -34,10 +35,10 @@ rule-lattice gov = lattice (gov .well-formed .schemes-sound) (gov .ruled)
 
 -- The ruling has as many words as the machine's table.
 module _ {R : List ℕ} {m : Machine} (gov : Governed R m) (v : ℕ → ℕ) where
-  pub to-words : Constant R v → Nodes.Constant (words (m .schemes)) v
+  pub to-words : Constant (wordsAt R) v → Constant (words (m .schemes)) v
   to-words constant c h = constant c (omega (arith, gov .ruled .words-same))
 
-  pub of-words : Nodes.Constant (words (m .schemes)) v → Constant R v
+  pub of-words : Constant (words (m .schemes)) v → Constant (wordsAt R) v
   of-words constant c h = constant c (omega (arith, gov .ruled .words-same))
 
 -- No typing at one strength, none at the stronger ones.
@@ -53,20 +54,16 @@ module _ (m : Machine) (n : ℕ) where
 
 -- Every type is finite.
 abbrev pub AllFinite : List ℕ → List ℕ → List ℕ → Type 0
-AllFinite u k kids = (x : ℕ) → x < 329 → Finite u k kids x
-
--- Every constant is at or below its bound.
-abbrev InBounds : List ℕ → List ℕ → Type 0
-InBounds R b = (c : ℕ) → c < wordsAt R → under R c (boundAt b c) ≡ true
+AllFinite u k kids = (x : ℕ) → x < nodes → Finite (typesOf u k) kids x
 
 module _ {R : List ℕ} {m : Machine} (gov : Governed R m) {kids u k p b : List ℕ} where
-  module _ {n : ℕ} (after : After R m kids u k p b n) where
+  module _ {n : ℕ} (after : After R m kids (typesOf u k) (qualifiersOf p b) n) where
     -- A state that has no reading leaves no typing at all.
-    pub cyclic : ((t : ℕ → Ty ℕ) (v : ℕ → ℕ) → Reads u k kids t v → ⊥) → ¬ Typable (erased (ruling m)) m n
+    pub cyclic : ((t : ℕ → Ty ℕ) (v : ℕ → ℕ) → Reads (typesOf u k) kids t v → ⊥) → ¬ Typable (erased (ruling m)) m n
     cyclic none = none-erased m (gov .well-formed) n (λ t v meets. none t v (after .into t v meets .0))
 
     -- A broken bound leaves no typing.
-    pub broken-whole : ((v : ℕ → ℕ) → Constant R v → Bounded R b v → ⊥) → ¬ Typable (whole (ruling m)) m n
+    pub broken-whole : ((v : ℕ → ℕ) → Constant (wordsAt R) v → Bounded R b v → ⊥) → ¬ Typable (whole (ruling m)) m n
     broken-whole none =
         none-whole m (gov .well-formed) n R (gov .ruled)
         (λ t v constant coded meets fits. none v (of-words gov v constant) (after .bounds-into v coded (after .into t v meets .1) fits))
@@ -80,7 +77,7 @@ module _ {R : List ℕ} {m : Machine} (gov : Governed R m) {kids u k p b : List 
           some-unordered m (gov .well-formed) n (ts .0) (qs .0) (to-words gov (qs .0) (qs .2)) (after .outof (ts .0) (qs .0) (ts .1) (qs .1))
 
       -- Where every type is finite and no bound is broken there is a typing.
-      pub finite-whole : AllFinite u k kids → InBounds R b → Typable (whole (ruling m)) m n
+      pub finite-whole : AllFinite u k kids → Within R b → Typable (whole (ruling m)) m n
       finite-whole all within =
           let qs = greatest-reading (after .classes) within in
           let g = qs .1 in
@@ -88,17 +85,17 @@ module _ {R : List ℕ} {m : Machine} (gov : Governed R m) {kids u k p b : List 
           some-whole m (gov .well-formed) n R (gov .ruled) (ts .0) (qs .0) (to-words gov (qs .0) (g .constant)) (after .outof (ts .0) (qs .0) (ts .1) (g .linked)) (after .bounds-outof (qs .0) (g .linked) (g .bounded))
 
       -- A state that has a reading has only finite types.
-      pub read-whole : {t : ℕ → Ty ℕ} {v : ℕ → ℕ} → Reads u k kids t v → InBounds R b → Typable (whole (ruling m)) m n
+      pub read-whole : {t : ℕ → Ty ℕ} {v : ℕ → ℕ} → Reads (typesOf u k) kids t v → Within R b → Typable (whole (ruling m)) m n
       read-whole reads = finite-whole (finite-of-reading reads (after .types) parts)
 
-  module _ {i : ℕ} (in-list : i < length (m .terms)) (after : After R m kids u k p b i) where
+  module _ {i : ℕ} (in-list : i < length (m .terms)) (after : After R m kids (typesOf u k) (qualifiersOf p b) i) where
     -- The row's types clash.
-    pub clash-row : Clashes kids u k (Row m i) → ¬ Typable (erased (ruling m)) m (i + 1)
+    pub clash-row : Clashes kids (typesOf u k) (Row m i) → ¬ Typable (erased (ruling m)) m (i + 1)
     clash-row none =
         none-erased m (gov .well-formed) (i + 1)
         (λ t v meets. none t v (after .into t v (meets-fewer m t v i (i + 1) (omega arith) meets) .0) (meets-last m t v i in-list meets))
 
-    module _ {u′ k′ : List ℕ} (apart : Parted R kids u k p u′ k′ (Row m i)) where
+    module _ {u′ k′ : List ℕ} (apart : Parted R kids (typesOf u k) p (typesOf u′ k′) (Row m i)) where
       -- Two constants meet at the row.
       pub apart-row : ¬ Typable (unordered (ruling m)) m (i + 1)
       apart-row =
@@ -107,7 +104,7 @@ module _ {R : List ℕ} {m : Machine} (gov : Governed R m) {kids u k p b : List 
           let before = after .into t v (meets-fewer m t v i (i + 1) (omega arith) meets) in
           apart .none t v (of-words gov v constant) (before .0) (before .1) (meets-last m t v i in-list meets))
 
-      pub apart-cyclic : ((t : ℕ → Ty ℕ) (v : ℕ → ℕ) → Reads u′ k′ kids t v → ⊥) → ¬ Typable (erased (ruling m)) m (i + 1)
+      pub apart-cyclic : ((t : ℕ → Ty ℕ) (v : ℕ → ℕ) → Reads (typesOf u′ k′) kids t v → ⊥) → ¬ Typable (erased (ruling m)) m (i + 1)
       apart-cyclic none =
           clash-row (λ t v reads holds. none t v (apart .shapes t v reads holds))
 
@@ -119,21 +116,21 @@ module _ {R : List ℕ} {m : Machine} (gov : Governed R m) {kids u k p b : List 
 
 -- A reading with one qualifier for all.
 abbrev pub Readable : List ℕ → List ℕ → List ℕ → Type 0
-Readable u k kids = (t : ℕ → Ty ℕ) × Reads u k kids t (λ x. 0)
+Readable u k kids = (t : ℕ → Ty ℕ) × Reads (typesOf u k) kids t (λ x. 0)
 
 -- Where every type after a row is finite there is such a reading of the types before it.
 module _ {kids u k u′ k′ : List ℕ} (parts : Parts kids) (all : AllFinite u′ k′ kids) where
-  pub clash-before : Intact kids u k u′ k′ → Readable u k kids
+  pub clash-before : Intact kids (typesOf u k) (typesOf u′ k′) → Readable u k kids
   clash-before intact =
       let ts = reading {Q = ℕ} (λ x. 0) (λ r. int) (intact .classes) parts all in
       (ts .0, intact .outof (ts .0) (ts .1))
 
-  pub apart-before : {R p : List ℕ} {E : (ℕ → Ty ℕ) → (ℕ → ℕ) → Type 0} → Parted R kids u k p u′ k′ E → Readable u k kids
+  pub apart-before : {R p : List ℕ} {E : (ℕ → Ty ℕ) → (ℕ → ℕ) → Type 0} → Parted R kids (typesOf u k) p (typesOf u′ k′) E → Readable u k kids
   apart-before apart =
       let ts = reading {Q = ℕ} (λ x. 0) (λ r. int) (apart .types) parts all in
       (ts .0, apart .erased (ts .0) (ts .1) .0)
 
-  pub broken-before : {R p b p′ b′ : List ℕ} {E : (ℕ → Ty ℕ) → (ℕ → ℕ) → Type 0} {F : (ℕ → ℕ) → Type 0} → Extended R kids u k p b u′ k′ p′ b′ E F → Readable u k kids
+  pub broken-before : {R p b p′ b′ : List ℕ} {E : (ℕ → Ty ℕ) → (ℕ → ℕ) → Type 0} {F : (ℕ → ℕ) → Type 0} → Extended R kids (typesOf u k) (qualifiersOf p b) (typesOf u′ k′) (qualifiersOf p′ b′) E F → Readable u k kids
   broken-before next =
       let ts = reading {Q = ℕ} (λ x. 0) (λ r. int) (next .types) parts all in
       (ts .0, next .outof (ts .0) (λ x. 0) (ts .1) (λ x h. refl) .0)

@@ -10,7 +10,7 @@ use Rattle.scheme.proofs.Qualifier.{qualifier-code, code-below}
 use Rattle.scheme.proofs.Every.{and-left, and-right, implies, implies-true, every, every-at}
 use Rattle.model.specs.Machine.{Machine}
 use Rattle.model.specs.Typing.{Ty, int, arrow, Assignment}
-use Rattle.model.specs.Inference.{ruling, Slot, variable, param, row, mentions, Listed, qualifierOf, typeOf, IsInt, is-int, IsArrow, is-arrow, Shape, Types, ShapeSays, GreatestTyping}
+use Rattle.model.specs.Inference.{ruling, Slot, variable, param, row, mentions, Listed, slotQualifier, typeOf, IsInt, is-int, IsArrow, is-arrow, Shape, Types, ShapeSays, GreatestTyping}
 
 -- The test passes at every slot of the report: at the variables, the parameters and the rows.
 abbrev pub EverySlot : Machine → (Slot → Bool) → Type 0
@@ -57,25 +57,25 @@ is-arrow-of (arrow q t q′ t′) h = is-arrow
 
 module _ (m : Machine) (first second : Assignment (ruling m .Q)) where
   abbrev pub words : Slot → ℕ
-  words x = code (qualifierOf first x)
+  words x = code (slotQualifier first x)
 
   abbrev pub shapes : Slot → Shape
   shapes x = between (shapeOf (typeOf first x)) (shapeOf (typeOf second x))
 
   -- At the slot the typing has a qualifier at or below the word, and a type of the shape.
   abbrev pub within : Assignment (ruling m .Q) → Slot → Bool
-  within s x = below (m .schemes) (code (qualifierOf s x)) (words x) && suits (shapes x) (shapeOf (typeOf s x))
+  within s x = below (m .schemes) (code (slotQualifier s x)) (words x) && suits (shapes x) (shapeOf (typeOf s x))
 
   module _ (typed-first : Types (ruling m) m first) (typed-second : Types (ruling m) m second) (all-within : (s : Assignment (ruling m .Q)) → Types (ruling m) m s → EverySlot m (within s)) where
     module _ (x : Slot) (l : Listed (ruling m) m x) where
       at : (s : Assignment (ruling m .Q)) → Types (ruling m) m s → within s x ≡ true
       at s typing = slot-at m (within s) (all-within s typing) x l
 
-      at-or-below : (s : Assignment (ruling m .Q)) → Types (ruling m) m s → below (m .schemes) (code (qualifierOf s x)) (code (ruling m .word (words x))) ≡ true
-      at-or-below s typing = rw (qualifier-code (qualifierOf first x)) (and-left _ _ (at s typing))
+      at-or-below : (s : Assignment (ruling m .Q)) → Types (ruling m) m s → below (m .schemes) (code (slotQualifier s x)) (code (ruling m .word (words x))) ≡ true
+      at-or-below s typing = rw (qualifier-code (slotQualifier first x)) (and-left _ _ (at s typing))
 
       suiting : (s : Assignment (ruling m .Q)) → Types (ruling m) m s → suits (shapes x) (shapeOf (typeOf s x)) ≡ true
-      suiting s typing = and-right (below (m .schemes) (code (qualifierOf s x)) (words x)) _ (at s typing)
+      suiting s typing = and-right (below (m .schemes) (code (slotQualifier s x)) (words x)) _ (at s typing)
 
       says : (τ σ : Ty (ruling m .Q)) → typeOf first x ≡ τ → typeOf second x ≡ σ →
           ((s : Assignment (ruling m .Q)) → Types (ruling m) m s → suits (between (shapeOf τ) (shapeOf σ)) (shapeOf (typeOf s x)) ≡ true) →
@@ -91,8 +91,8 @@ module _ (m : Machine) (first second : Assignment (ruling m .Q)) where
     pub greatest-typing : GreatestTyping (ruling m) m words shapes
     greatest-typing =
         record {
-          worded = λ x l. code-below (qualifierOf first x);
+          worded = λ x l. code-below (slotQualifier first x);
           greatest = λ s typing x l. at-or-below x l s typing;
           shaped = λ x l. says x l (typeOf first x) (typeOf second x) refl refl (suiting x l);
-          together = (first, typed-first, (λ x l. sym (qualifier-code (qualifierOf first x))), (λ x l any. any-int x l (typeOf first x) (typeOf second x) refl any));
+          together = (first, typed-first, (λ x l. sym (qualifier-code (slotQualifier first x))), (λ x l any. any-int x l (typeOf first x) (typeOf second x) refl any));
         }

@@ -50,11 +50,11 @@ pub struct Answered {
 
 impl Table {
     // The most entries of each list.
-    pub const TYPES: usize = 64;
+    pub const TYPES: usize = model::TYPES;
 
-    pub const PARAMS: usize = 64;
+    pub const PARAMS: usize = model::PARAMS;
 
-    pub const TERMS: usize = 256;
+    pub const TERMS: usize = model::TERMS;
 
     // No entry stands under a scheme table: what the arrays hold does not matter.
     pub fn empty(schemes: Schemes) -> Table

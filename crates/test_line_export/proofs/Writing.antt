@@ -11,7 +11,7 @@ use borrow.Author.Tests.{le-leb, lt-leb}
 use Rattle.scheme.specs.Six.{sixTable}
 use Rattle.model.specs.Line.{lineOf}
 use Rattle.model.specs.declared.Line.{Line}
-use Rattle.test_line_export.specs.Encoding.{numbers, written, after, Answered}
+use Rattle.test_line_export.specs.Encoding.{numbers, written, after, ReadInto}
 
 -- After i turns the buffer has the first i numbers, and from there on what it had before.
 pub record Copied (from before to : List ℕ) (i : ℕ) : Type 0 where
@@ -45,12 +45,12 @@ pub ruleset copies = (copy-first, copy-next, copy-end)
 
 -- The buffer is too short, or has room.
 module _ (s out : List ℕ) where
-  pub read-short : length out < 6 → Answered s out 0 out
+  pub read-short : length out < 6 → ReadInto s out 0 out
   unfolding written after
   read-short h = record { counted = simp (lt-leb 6 (length out) h); left = simp (lt-leb 6 (length out) h) }
 
   pub read-room : (line : Line) (values out′ : List ℕ) → 6 ≤ length out → length values ≡ 6 → line ≡ lineOf (sixTable .names) s → values ≡ numbers line →
-      out′ ≡ values ++ drop (length values) out → Answered s out 6 out′
+      out′ ≡ values ++ drop (length values) out → ReadInto s out 6 out′
   unfolding written after
   read-room line values out′ h six l v e =
       record { counted = simp (le-leb 6 (length out) h); left = simp (le-leb 6 (length out) h, ← l, ← v) (simp six at e) }

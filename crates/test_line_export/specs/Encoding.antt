@@ -42,6 +42,6 @@ unfoldable pub after : List ℕ → List ℕ → List ℕ
 after s out = cond (leb 6 (length out)) (numbers (lineOf (sixTable .names) s) ++ drop 6 out) out
 
 -- What a call on the bytes s and the buffer out returns, and what it leaves in the buffer.
-pub record Answered (s out : List ℕ) (count : ℕ) (out′ : List ℕ) : Type 0 where
+pub record ReadInto (s out : List ℕ) (count : ℕ) (out′ : List ℕ) : Type 0 where
   pub counted : count ≡ written out
   pub left : out′ ≡ after s out

@@ -3,7 +3,7 @@ ghost use mathlib.Core.Path.{_≡_};
 ghost use mathlib.Core.List.{_++_};
 ghost use Prim.Native.Nat.{_≤_};
 ghost use lib.ListN.{length, drop};
-ghost use Rattle.test_line_export.specs.Encoding.{typeNumbers, termNumbers, numbers, Answered};
+ghost use Rattle.test_line_export.specs.Encoding.{typeNumbers, termNumbers, numbers, ReadInto};
 use model::Line;
 use model::Term;
 use model::TypeForm;
@@ -67,7 +67,7 @@ fn copy(from: &[u32], to: &mut [u32])
 // Reads a line and writes its six numbers; answers how many were written, 0 where the buffer is shorter.
 #[no_mangle]
 pub extern "C" fn read_line(s: &[u8], out: &mut [u32]) -> u32
-    ensures { λ r. ⌜ Answered (now (s .entry)) (now (out .entry)) r (now (out .exit)) ⌝ }
+    ensures { λ r. ⌜ ReadInto (now (s .entry)) (now (out .entry)) r (now (out .exit)) ⌝ }
 {
     if out.len() < 6 {
         return 0;

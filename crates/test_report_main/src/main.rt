@@ -1,5 +1,10 @@
 // Writes two reports and prints them: that of document 01's program A in full, and one of the greatest length by its length and its ends.
 
+use model::PARAMS;
+use model::TERMS;
+use model::VARIABLES;
+use report::Codes;
+
 // A byte that no report has: the buffers are filled with it.
 const FILL: u8 = b'#';
 
@@ -43,23 +48,17 @@ fn print_summary(buffer: &[u8], size: usize) {
 // Program A: one variable (9 lists none), one parameter and four rows, in AH but for the last, which is PLAIN and an ARROW.
 fn program_a() {
     let mut buffer = [FILL; 6400];
-    let mut variables = [9u8; 64];
-    let mut row_words = [5u8; 256];
-    let mut row_shapes = [0u8; 256];
-    variables[0] = 5;
-    row_words[3] = 0;
-    row_shapes[3] = 1;
-    let size = report::write(
-        &mut buffer,
-        &NAMES,
-        &variables,
-        &[5u8; 64],
-        &[0u8; 64],
-        &row_words,
-        &row_shapes,
-        1,
-        4,
-    );
+    let mut codes = Codes {
+        variables: [9; VARIABLES],
+        paramwords: [5; PARAMS],
+        paramshapes: [0; PARAMS],
+        rowwords: [5; TERMS],
+        rowshapes: [0; TERMS],
+    };
+    codes.variables[0] = 5;
+    codes.rowwords[3] = 0;
+    codes.rowshapes[3] = 1;
+    let size = report::write(&mut buffer, &NAMES, codes, 1, 4);
     print(&buffer, 0, size);
     print_summary(&buffer, size);
 }
@@ -67,17 +66,14 @@ fn program_a() {
 // All 64 variables, 64 parameters and 256 rows, with the longest words: PLAIN and ARROW.
 fn longest() {
     let mut buffer = [FILL; 6400];
-    let size = report::write(
-        &mut buffer,
-        &NAMES,
-        &[0u8; 64],
-        &[0u8; 64],
-        &[1u8; 64],
-        &[0u8; 256],
-        &[1u8; 256],
-        64,
-        256,
-    );
+    let codes = Codes {
+        variables: [0; VARIABLES],
+        paramwords: [0; PARAMS],
+        paramshapes: [1; PARAMS],
+        rowwords: [0; TERMS],
+        rowshapes: [1; TERMS],
+    };
+    let size = report::write(&mut buffer, &NAMES, codes, PARAMS, TERMS);
     print_summary(&buffer, size);
     print(&buffer, 0, 20);
     if 18 <= size {

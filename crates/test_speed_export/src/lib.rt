@@ -61,17 +61,5 @@ fn solve_times(table: Table, times: u32)
 fn solve_once(table: Table)
     requires { ⌜ Ready table × (0 < length (lists table .terms)) ⌝ }
 {
-    let mut variables = [0u8; 64];
-    let mut param_words = [0u8; 64];
-    let mut param_shapes = [0u8; 64];
-    let mut row_words = [0u8; 256];
-    let mut row_shapes = [0u8; 256];
-    inference::solve(
-        table,
-        &mut variables,
-        &mut param_words,
-        &mut param_shapes,
-        &mut row_words,
-        &mut row_shapes,
-    );
+    inference::solve(table);
 }

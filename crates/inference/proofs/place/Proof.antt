@@ -12,11 +12,11 @@ enum-told c = search needs
 
 report-above-floors-requires : tie.Need-report-above-floors-requires
 report-above-floors-requires c κs =
-    let start = c .before .before .before .before .before .before .before .before .before .before .before .before .before .before .before in
-    (start .pre .0, start .pre .1, start .pre .2, rw (c .before .before .before .before .before .before .enum-told .given .1) at (c .before .before .before .before .before .before .before .before .solve .ensures))
+    let start = c .before .before .before .before .before .before in
+    (start .pre .0, start .pre .1, start .pre .2, rw (c .before .enum-told .given .1) at (c .before .before .before .before .solve .ensures))
 
-enum-known-number : tie.Need-enum-known-number
-enum-known-number c = search needs
+enum-known-answer : tie.Need-enum-known-answer
+enum-known-answer c = search needs
 
 refusal-requires : tie.Need-refusal-requires
 refusal-requires c κs = search needs
@@ -29,8 +29,8 @@ returns c = search needs
 
 returns-2 : tie.Need-returns-2
 returns-2 c =
-    let start = c .before .before .before .before .before .before .before .before .before .before .before in
-    row-refused _ _ _ (start .pre .2) (start .pre .1) _ _ (rw (c .before .before .number .given .1) at (c .before .before .before .before .solve .ensures)) (c .refusal .ensures)
+    let start = c .before .before .before .before .before .before .before in
+    row-refused _ _ _ (start .pre .2) (start .pre .1) _ _ (rw (c .before .before .answer .given .1) at (c .before .before .before .before .before .solve .ensures)) (c .refusal .ensures)
 
 pub place-spec : {M : Type 1} → statement M
 place-spec =
@@ -39,7 +39,7 @@ place-spec =
     solve-requires
     enum-told
     report-above-floors-requires
-    enum-known-number
+    enum-known-answer
     refusal-requires
     same-length
     returns

@@ -4,13 +4,13 @@ use native.Mathlib.Omega.{arith}
 use mathlib.Core.List.{List}
 use mathlib.Core.Path.{_≡_}
 use Rattle.scheme.specs.Rule.{wordsAt}
-use Rattle.qualifiers.specs.Classes.{Classes, Within, Settled}
+use Rattle.qualifiers.specs.Classes.{Classes, Within, Settled, qualifiersOf}
 use Rattle.qualifiers.proofs.Readings.{settled-none, settled-constant}
 use Rattle.qualifiers.proofs.settle_words.Statement.{statement}
 use Rattle.qualifiers.proofs.settle_words.Tie as tie
 
 abbrev Inv-loop : tie.InvT-loop
-Inv-loop rule bound₀ words c₀ bound c = (c ≤ words) × ((p : List ℕ) → Classes rule p bound₀ → Within rule bound₀ → Settled rule p bound₀ bound c)
+Inv-loop rule bound₀ words c₀ bound c = (c ≤ words) × ((p : List ℕ) → Classes rule (qualifiersOf p bound₀) → Within rule bound₀ → Settled rule (qualifiersOf p bound₀) bound c)
 
 abbrev μ-loop : tie.MeasureT-loop
 μ-loop rule bound₀ words c₀ bound c = words - c

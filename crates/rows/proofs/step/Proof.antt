@@ -8,11 +8,11 @@ use Rattle.rows.proofs.step.Tie as tie
 enum-told : tie.Need-enum-told
 enum-told c = search needs
 
-cast-known-row : tie.Need-cast-known-row
-cast-known-row c = search needs
+row-type-requires : tie.Need-row-type-requires
+row-type-requires c κs = search needs
 
-add-known-row : tie.Need-add-known-row
-add-known-row c = search needs
+arrow-requires : tie.Need-arrow-requires
+arrow-requires c κs = search needs
 
 known-row-requires : tie.Need-known-row-requires
 known-row-requires c κs = search needs
@@ -53,8 +53,8 @@ op-row-requires c κs =
 enum-known-term-3 : tie.Need-enum-known-term-3
 enum-known-term-3 c = search needs
 
-add-put-under-root : tie.Need-add-put-under-root
-add-put-under-root c = search needs
+row-type-requires-2 : tie.Need-row-type-requires-2
+row-type-requires-2 c κs = search needs
 
 cast-put-under-root : tie.Need-cast-put-under-root
 cast-put-under-root c = search needs
@@ -64,57 +64,47 @@ mul-put-under-root c = search needs
 
 element-copy-out-put-under-root : tie.Need-element-copy-out-put-under-root
 element-copy-out-put-under-root c =
-    let a = c .before .before .before .before in
-    let row = a .pre .1 .1 .1 .0 in
-    let is = c .before .before .term3 .given .1 in
-    rw is at (row .0 .stands)
+    let row = c .before .before .before .before .before .pre .1 .1 .1 .0 in
+    rw (c .before .before .before .term3 .given .1) at (row .0 .stands)
 
 cast-put-under-root-2 : tie.Need-cast-put-under-root-2
 cast-put-under-root-2 c =
-    let a = c .before .before .before .before .before in
-    let row = a .pre .1 .1 .1 .0 in
-    let is = c .before .before .before .term3 .given .1 in
-    omega (arith, rw is at (row .0 .type-node))
+    let row = c .before .before .before .before .before .before .pre .1 .1 .1 .0 in
+    omega (arith, rw (c .before .before .before .before .term3 .given .1) at (row .0 .type-node))
 
 put-under-root-requires : tie.Need-put-under-root-requires
 put-under-root-requires c κs =
-    let a = c .before .before .before .before .before in
+    let a = c .before .before .before .before .before .before in
     let row = a .pre .1 .1 .1 .0 in
-    let is = c .before .before .before .term3 .given .1 in
-    (a .pre .0 .forest, omega (arith, row .0 .in-list, rw is at (row .0 .type-node)))
+    (a .pre .0 .forest, omega (arith, row .0 .in-list, c .before .row-type2 .ensures, rw (c .before .before .before .before .term3 .given .1) at (row .0 .type-node)))
 
-add-put-under-root-2 : tie.Need-add-put-under-root-2
-add-put-under-root-2 c = search needs
+row-qualifier-requires : tie.Need-row-qualifier-requires
+row-qualifier-requires c κs = search needs
 
 cast-put-under-root-3 : tie.Need-cast-put-under-root-3
 cast-put-under-root-3 c = search needs
 
 element-copy-out-put-under-root-2 : tie.Need-element-copy-out-put-under-root-2
 element-copy-out-put-under-root-2 c =
-    let a = c .before .before .before .before .before .before .before in
-    let row = a .pre .1 .1 .1 .0 in
-    let is = c .before .before .before .before .before .term3 .given .1 in
-    rw is at (row .0 .stands)
+    let row = c .before .before .before .before .before .before .before .before .before .pre .1 .1 .1 .0 in
+    rw (c .before .before .before .before .before .before .before .term3 .given .1) at (row .0 .stands)
 
 cast-put-under-root-4 : tie.Need-cast-put-under-root-4
 cast-put-under-root-4 c =
-    let a = c .before .before .before .before .before .before .before .before in
-    let row = a .pre .1 .1 .1 .0 in
-    let is = c .before .before .before .before .before .before .term3 .given .1 in
-    omega (arith, rw is at (row .0 .qualifier-node))
+    let row = c .before .before .before .before .before .before .before .before .before .before .pre .1 .1 .1 .0 in
+    omega (arith, rw (c .before .before .before .before .before .before .before .before .term3 .given .1) at (row .0 .qualifier-node))
 
 put-under-root-requires-2 : tie.Need-put-under-root-requires-2
 put-under-root-requires-2 c κs =
-    let a = c .before .before .before .before .before .before .before .before in
+    let a = c .before .before .before .before .before .before .before .before .before .before in
     let row = a .pre .1 .1 .1 .0 in
-    let is = c .before .before .before .before .before .before .term3 .given .1 in
-    (a .pre .1 .1 .0 .forest, omega (arith, row .0 .in-list, rw is at (row .0 .qualifier-node)))
+    (a .pre .1 .1 .0 .forest, omega (arith, row .0 .in-list, c .before .row-qualifier .ensures, rw (c .before .before .before .before .before .before .before .before .term3 .given .1) at (row .0 .qualifier-node)))
 
 enum-told-2 : tie.Need-enum-told-2
 enum-told-2 c = search needs
 
-add-known-row-2 : tie.Need-add-known-row-2
-add-known-row-2 c = search needs
+row-qualifier-requires-2 : tie.Need-row-qualifier-requires-2
+row-qualifier-requires-2 c κs = search needs
 
 known-row-requires-2 : tie.Need-known-row-requires-2
 known-row-requires-2 c κs = search needs
@@ -122,20 +112,21 @@ known-row-requires-2 c κs = search needs
 enum-known-term-4 : tie.Need-enum-known-term-4
 enum-known-term-4 c = search needs
 
-cast-known-row-2 : tie.Need-cast-known-row-2
-cast-known-row-2 c = search needs
+cast-known-row : tie.Need-cast-known-row
+cast-known-row c = search needs
 
 known-row-requires-3 : tie.Need-known-row-requires-3
 known-row-requires-3 c κs = search needs
 
 returns : tie.Need-returns
 returns c =
-    let a = c .before .before .before .before .before in
+    let a = c .before .before .before .before .before .before .before in
     let row = a .pre .1 .1 .1 .0 in
-    let is = c .before .before .before .enum-told .given .1 in
+    let is = c .before .before .before .before .before .enum-told .given .1 in
     let stands = rw is at (row .0 .stands) in
+    let known = rw (c .before .arrow .ensures, c .before .before .row-type .ensures) at (c .known-row .ensures) in
     rw is
-    (row-arrow (row .0 .in-list) (a .pre .0) (a .pre .1 .1 .0) (a .pre .1 .1 .1 .1) (c .known-row .ensures) (rw is at (row .1)) (omega (arith, rw is at (row .0 .qualifier-node))) (omega (arith, rw is at (row .0 .type-node))) (omega (arith, stands .1)) (omega (arith, stands .1)))
+    (row-arrow (row .0 .in-list) (a .pre .0) (a .pre .1 .1 .0) (a .pre .1 .1 .1 .1) known (rw is at (row .1)) (omega (arith, rw is at (row .0 .qualifier-node))) (omega (arith, rw is at (row .0 .type-node))) (omega (arith, stands .1)) (omega (arith, stands .1)))
 
 returns-2 : tie.Need-returns-2
 returns-2 c = rw (c .before .before .before .before .before .before .before .before .term .given .1) (c .app-row .ensures)
@@ -143,21 +134,23 @@ returns-2 c = rw (c .before .before .before .before .before .before .before .bef
 returns-3 : tie.Need-returns-3
 returns-3 c =
     let a = c .before .before .before .before .before .before .before .before in
-    let row = a .pre .1 .1 .1 .0 in
     rw (c .before .before .before .before .before .before .term2 .given .1) (c .op-row .ensures _ (a .pre .1 .1 .1 .1))
 
 returns-4 : tie.Need-returns-4
 returns-4 c =
-    let a = c .before .before .before .before .before .before .before .before .before in
+    let a = c .before .before .before .before .before .before .before .before .before .before .before in
     let row = a .pre .1 .1 .1 .0 in
-    let is = c .before .before .before .before .before .before .before .term3 .given .1 in
-    rw is (row-same (row .0 .in-list) (a .pre .0) (a .pre .1 .1 .0) (a .pre .1 .1 .1 .1) (omega (arith, rw is at (row .0 .qualifier-node))) (rw is at (row .0 .type-node)) (c .before .before .before .put-under-root .ensures) (c .put-under-root2 .ensures))
+    let is = c .before .before .before .before .before .before .before .before .before .term3 .given .1 in
+    let type = rw (c .before .before .before .before .before .before .row-type2 .ensures) at (c .before .before .before .before .put-under-root .ensures) in
+    let qualifier = rw (c .before .before .row-qualifier .ensures) at (c .put-under-root2 .ensures) in
+    rw is (row-same (row .0 .in-list) (a .pre .0) (a .pre .1 .1 .0) (a .pre .1 .1 .1 .1) (omega (arith, rw is at (row .0 .qualifier-node))) (rw is at (row .0 .type-node)) type qualifier)
 
 returns-5 : tie.Need-returns-5
 returns-5 c =
-    let a = c .before .before .before .before .before in
+    let a = c .before .before .before .before .before .before in
     let row = a .pre .1 .1 .1 .0 in
-    rw (c .before .before .before .enum-told2 .given .1) (row-literal (row .0 .in-list) (a .pre .0) (a .pre .1 .1 .0) (a .pre .1 .1 .1 .1) (c .known-row2 .ensures))
+    let known = rw (c .before .row-qualifier2 .ensures) at (c .known-row2 .ensures) in
+    rw (c .before .before .before .before .enum-told2 .given .1) (row-literal (row .0 .in-list) (a .pre .0) (a .pre .1 .1 .0) (a .pre .1 .1 .1 .1) known)
 
 returns-6 : tie.Need-returns-6
 returns-6 c =
@@ -172,8 +165,8 @@ step-spec =
     tie.close
     (tie.spec
     enum-told
-    cast-known-row
-    add-known-row
+    row-type-requires
+    arrow-requires
     known-row-requires
     enum-known-term
     cast-app-row
@@ -184,22 +177,22 @@ step-spec =
     cast-op-row-2
     op-row-requires
     enum-known-term-3
-    add-put-under-root
+    row-type-requires-2
     cast-put-under-root
     mul-put-under-root
     element-copy-out-put-under-root
     cast-put-under-root-2
     put-under-root-requires
-    add-put-under-root-2
+    row-qualifier-requires
     cast-put-under-root-3
     element-copy-out-put-under-root-2
     cast-put-under-root-4
     put-under-root-requires-2
     enum-told-2
-    add-known-row-2
+    row-qualifier-requires-2
     known-row-requires-2
     enum-known-term-4
-    cast-known-row-2
+    cast-known-row
     known-row-requires-3
     returns
     returns-2

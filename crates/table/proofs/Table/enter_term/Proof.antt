@@ -24,19 +24,42 @@ term-refusal-requires c κs = search needs
 
 returns : tie.Need-returns
 unfolding entered
-returns c = (refused _ _ _ _ (c .before .term-refusal .ensures _ (c .before .before .before .before .before .parameters .ensures .0) (c .before .before .before .before .term-rows .ensures .0) (free-by-rows _ _ _ _ (c .before .before .before .children-free .ensures) (c .before .before .binder-free .ensures))) (c .if1 .taken), refl)
+returns c =
+    let at-children-free = c .before .before .before in
+    let at-term-rows = at-children-free .before in
+    let at-parameters = at-term-rows .before in (
+      refused _ _ _ _
+          (c .before .term-refusal .ensures _ (at-parameters .parameters .ensures .0) (at-term-rows .term-rows .ensures .0) (free-by-rows _ _ _ _ (at-children-free .children-free .ensures) (c .before .before .binder-free .ensures)))
+          (c .if1 .taken),
+      refl,
+    )
 
 mul-t9 : tie.Need-mul-t9
 mul-t9 c = search needs
 
 element-set-from-self : tie.Need-element-set-from-self
-element-set-from-self c = term-room (c .before .before .before .before .before .before .before .args .t1) _ _ (c .if1 .left) _ (c .before .term-refusal .ensures _ (c .before .before .before .before .before .parameters .ensures .0) (c .before .before .before .before .term-rows .ensures .0) (free-by-rows _ _ _ _ (c .before .before .before .children-free .ensures) (c .before .before .binder-free .ensures))) .1
+element-set-from-self c =
+    let at-children-free = c .before .before .before in
+    let at-term-rows = at-children-free .before in
+    let at-parameters = at-term-rows .before in
+    let at-args = at-parameters .before .before in
+    term-room (at-args .args .t1) _ _ (c .if1 .left) _
+    (c .before .term-refusal .ensures _ (at-parameters .parameters .ensures .0) (at-term-rows .term-rows .ensures .0) (free-by-rows _ _ _ _ (at-children-free .children-free .ensures) (c .before .before .binder-free .ensures))) .1
 
 add-self : tie.Need-add-self
 add-self c = search needs
 
 returns-2 : tie.Need-returns-2
-returns-2 c = (term-stored (c .before .before .before .before .before .before .before .args .t1) _ _ (c .if1 .left) _ (c .before .term-refusal .ensures _ (c .before .before .before .before .before .parameters .ensures .0) (c .before .before .before .before .term-rows .ensures .0) (free-by-rows _ _ _ _ (c .before .before .before .children-free .ensures) (c .before .before .binder-free .ensures))) (terms-whole (c .before .before .before .before .before .before .before .args .t1) (c .before .before .before .before .before .before .before .good .0)), refl)
+returns-2 c =
+    let at-children-free = c .before .before .before in
+    let at-term-rows = at-children-free .before in
+    let at-parameters = at-term-rows .before in
+    let at-args = at-parameters .before .before in (
+      term-stored (at-args .args .t1) _ _ (c .if1 .left) _
+          (c .before .term-refusal .ensures _ (at-parameters .parameters .ensures .0) (at-term-rows .term-rows .ensures .0) (free-by-rows _ _ _ _ (at-children-free .children-free .ensures) (c .before .before .binder-free .ensures)))
+          (terms-whole (at-args .args .t1) (at-args .good .0)),
+      refl,
+    )
 
 pub enter-term-spec : {M : Type 1} → statement M
 enter-term-spec =

@@ -1,16 +1,17 @@
 -- Four texts after one another, with the words of the table, which spells the names; there is room for each since a report has room.
 use borrow.Author.Needs.{needs}
 use Rattle.model.specs.Line.{fields}
-use Rattle.report.specs.Codes.{Codes, codesOf}
+use Rattle.report.specs.declared.Codes.{Codes}
+use Rattle.report.specs.Codes.{codesOf}
 use Rattle.report.specs.Writing.{Room, wordsIn}
 use Rattle.report.proofs.Text.{text, same-text, counts-room, variables-room, params-room, rows-room, written}
 use Rattle.report.proofs.Witness.{text-room}
-use Rattle.report.proofs.write.Statement.{statement}
-use Rattle.report.proofs.write.Tie as tie
+use Rattle.report.proofs.write_arrays.Statement.{statement}
+use Rattle.report.proofs.write_arrays.Tie as tie
 
 abbrev given : tie.Start → Codes
 given c =
-    codesOf (c .args .variables .now) (c .args .param-words .now) (c .args .param-shapes .now) (c .args .row-words .now) (c .args .row-shapes .now)
+    codesOf (c .args .variables .now) (c .args .paramwords .now) (c .args .paramshapes .now) (c .args .rowwords .now) (c .args .rowshapes .now)
 
 room : (c : tie.After-word-table) → Room (c .before .before .before .args .buffer .now) 0 (text (wordsIn (c .word-table .result)) (given (c .before .before .before)) (c .before .before .before .args .params) (c .before .before .before .args .rows))
 room c =
@@ -69,8 +70,8 @@ returns c =
     (same-text _ _ (made .word-table .ensures .1) _ _ _)
     (c .before .before .write-slots2 .ensures)
 
-pub write-spec : {M : Type 1} → statement M
-write-spec =
+pub write-arrays-spec : {M : Type 1} → statement M
+write-arrays-spec =
     tie.close
     (tie.spec
     word-table-requires
