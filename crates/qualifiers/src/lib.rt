@@ -1,14 +1,14 @@
 // Classes of qualifier nodes: made one, restricted, tested, and read off.
 ghost use mathlib.Core.Path.{_≡_};
 ghost use mathlib.Core.List.{List};
-ghost use Prim.Native.Nat.{ℕ, _<_};
+ghost use Prim.Native.Nat.{ℕ, _<_, _≤_};
 ghost use lib.Dec.{ltb};
 ghost use lib.ListN.{length};
 ghost use Rattle.layout.specs.Layout.{nodes};
 ghost use Rattle.scheme.specs.Rule.{wordsAt, topAt, under, Lattice};
 ghost use Rattle.forest.specs.Forest.{Forest, TwoRoots};
 ghost use Rattle.forest.specs.Pairs.{Pairs, notesOf};
-ghost use Rattle.qualifiers.specs.Classes.{boundAt, Classes, Within, United, Class, UnitedAll, Restricted, Tested, Settled, Greatest, qualifiersOf};
+ghost use Rattle.qualifiers.specs.Classes.{boundAt, Classes, Within, United, Class, UnitedAll, Restricted, Tested, Settled, Greatest, Untouched, qualifiersOf};
 use layout::NODES;
 use layout::PAIR_PLACES;
 use scheme::RULE;
@@ -144,14 +144,21 @@ fn settle_words(rule: &[u8; RULE], bound: &mut [u8; NODES])
     }
 }
 
-// Puts into each node's bound the greatest qualifier that a reading gives it, from below: a parent is settled before its node.
-pub fn settle(rule: &[u8; RULE], qualifierparent: &[u16; NODES], bound: &mut [u8; NODES])
-    requires { ⌜ Classes (now rule) (qualifiersOf (now qualifierparent) (now bound)) ⌝ ∗ ⌜ Within (now rule) (now bound) ⌝ }
+// Puts into each node's bound the greatest qualifier that a reading gives it, from below: a parent is settled before its node. The
+// nodes from `count` on are untouched, and keep the bound that they have.
+pub fn settle(
+    rule: &[u8; RULE],
+    qualifierparent: &[u16; NODES],
+    bound: &mut [u8; NODES],
+    count: usize,
+)
+    requires { ⌜ Classes (now rule) (qualifiersOf (now qualifierparent) (now bound)) ⌝ ∗ ⌜ Within (now rule) (now bound) ⌝
+        ∗ ⌜ (count ≤ nodes) × Untouched (now rule) count (qualifiersOf (now qualifierparent) (now bound)) ⌝ }
     ensures { λ _. ⌜ Greatest (now (rule .entry)) (qualifiersOf (now (qualifierparent .entry)) (now (bound .entry))) (boundAt (now (bound .exit))) ⌝ }
 {
     settle_words(rule, bound);
     let mut x = scheme::words(rule);
-    while x < NODES {
+    while x < count {
         let above = qualifierparent[x] as usize;
         bound[x] = bound[above];
         x += 1;

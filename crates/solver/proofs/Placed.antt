@@ -7,8 +7,8 @@ use lib.ListN.{length, length-take}
 use Rattle.model.specs.Machine.{Machine}
 use Rattle.model.specs.Inference.{ruling, Slot, Listed, Shape, ShapeSays, GreatestTyping}
 use Rattle.model.specs.declared.Program.{Program}
-use Rattle.graph.specs.Types.{kindAt, Parts, typesOf}
-use Rattle.qualifiers.specs.Classes.{boundAt, Greatest, qualifiersOf}
+use Rattle.graph.specs.Types.{Types, kindAt, Parts, typesOf}
+use Rattle.qualifiers.specs.Classes.{Qualifiers, boundAt, Greatest, qualifiersOf}
 use Rattle.occurs.specs.Kinds.{KindsSettled}
 use Rattle.scheme.specs.Schemes.{SchemeTable}
 use Rattle.readings.specs.Programs.{Counted, Holds, machineOf}
@@ -16,9 +16,8 @@ use Rattle.readings.proofs.Greatest.{solved-greatest}
 use Rattle.report.specs.declared.Codes.{Codes}
 use Rattle.slots.specs.Filled.{Filled}
 use Rattle.solver.specs.State.{After}
-use Rattle.solver.specs.Runs.{Governed, Ended, Refuses, Solves}
-use Rattle.solver.specs.declared.Answer.{Answer}
-use Rattle.solver.specs.declared.Answer.the-variants.{Placed, Refused}
+use Rattle.solver.specs.Runs.{Governed, Ended, Completed, Solves}
+use Rattle.solver.specs.declared.Answer.the-variants.{Placed}
 use Rattle.solver.proofs.Solving.{state-solved}
 
 -- What the typings give is the same in other words for the same slots.
@@ -38,6 +37,10 @@ greatest-as m same-word same-shape a =
       );
     }
 
+-- A run over all rows went through all of them.
+pub completed : {R kids : List ℕ} {m : Machine} {T : Types} {Q : Qualifiers} {rows all : ℕ} → rows ≡ all → Parts kids → Ended R m kids T Q rows → Completed R m T Q all
+completed {R} {kids} {m} {T} {Q} whole parts ended = (kids, parts, subst (λ (n : ℕ). Ended R m kids T Q n) whole ended)
+
 -- A program of whole arrays is held by its machines, with as many rows as its count says.
 pub held : (T : SchemeTable) (program : Program) → length (program .terms) ≡ 256 → Counted program → Holds (machineOf T program) program
 held T program size few =
@@ -49,7 +52,3 @@ placed {R} {m} {kids} {u} {k} {p} {b} b′ k′ gov parts whole ended g settled 
     let solved =
     state-solved m gov kids u k p b k′ (boundAt b′) parts (subst (λ (n : ℕ). After R m kids (typesOf u k) (qualifiersOf p b) n) whole (ended .after)) (ended .finite) g settled in
     (greatest-as m (filled .words) (filled .shapes) (solved-greatest m (gov .well-formed) R (gov .ruled) (boundAt b′) (kindAt k′) solved), filled .matches)
-
-pub refused : (m : Machine) (codes : Codes) (r : Answer) → Refuses m r → Solves m codes r
-refused m codes Placed none = absurd none
-refused m codes (Refused number row) refusal = refusal

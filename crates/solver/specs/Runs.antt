@@ -11,12 +11,13 @@ use Rattle.model.specs.Strength.{whole}
 use Rattle.model.specs.Inference.{ruling, Cause, Refusal, GreatestTyping}
 use Rattle.model.specs.declared.TermRow.{TermRow}
 use Rattle.layout.specs.Layout.{nodes}
-use Rattle.graph.specs.Types.{Types, Reads}
+use Rattle.graph.specs.Types.{Types, Parts, Reads}
 use Rattle.graph.specs.Search.{Finite}
-use Rattle.qualifiers.specs.Classes.{Qualifiers, Within}
+use Rattle.qualifiers.specs.Classes.{Qualifiers}
 use Rattle.readings.specs.Nodes.{nodeNamed}
 use Rattle.setup.specs.Passes.{ParamsNoted}
 use Rattle.rows.specs.Rows.{RowStands}
+use Rattle.rows.specs.Steps.{Ready}
 use Rattle.report.specs.Codes.{codedWord, codedShape}
 use Rattle.report.specs.declared.Codes.{Codes}
 use Rattle.report.specs.Written.{Matches}
@@ -47,11 +48,15 @@ Finishes T kids rows Whole = (x : ℕ) → x < nodes → Finite T kids x
 Finishes T kids rows (Least n r) = ⊥
 Finishes T kids rows (Stopped n r) = (n ≡ 21) × (r + 1 ≡ rows) × ((t : ℕ → Ty ℕ) (v : ℕ → ℕ) → Reads T kids t v → ⊥)
 
--- The state after all the rows asked for, with every type finite and every bound met.
+-- The state after all the rows asked for, with every type finite and every bound met, and the nodes of the rows after them as they were.
 pub record Ended (R : List ℕ) (m : Machine) (kids : List ℕ) (T : Types) (Q : Qualifiers) (rows : ℕ) : Type 0 where
   pub after : After R m kids T Q rows
   pub finite : (x : ℕ) → x < nodes → Finite T kids x
-  pub within : Within R (Q .bounds)
+  pub ready : Ready R rows kids T Q
+
+-- The same by some descriptors, where nothing reads them any more.
+abbrev pub Completed : (R : List ℕ) (m : Machine) (T : Types) (Q : Qualifiers) (rows : ℕ) → Type 0
+Completed R m T Q rows = (kids : List ℕ) × Parts kids × Ended R m kids T Q rows
 
 -- A run over the first rows went through, or stopped at the least row that leaves no typing, or at some such row.
 abbrev pub RunAnswers : (R : List ℕ) (m : Machine) (kids : List ℕ) (T : Types) (Q : Qualifiers) (rows : ℕ) → Run → Type 0
@@ -73,11 +78,6 @@ RowReady q ty terms i = RowStands i (termIn terms i) (nodeNamed q (termIn terms 
 abbrev pub RunFrom : (R q ty : List ℕ) (terms : List TermRow) (kids₀ : List ℕ) (T₀ : Types) (Q₀ : Qualifiers) (kids : List ℕ) (T : Types) (Q : Qualifiers) (rows : ℕ) → Run → Type 0
 RunFrom R q ty terms kids₀ T₀ Q₀ kids T Q rows r =
     (m : Machine) → RowsOf R m q ty terms rows → After R m kids₀ T₀ Q₀ 0 → RunAnswers R m kids T Q rows r
-
--- Refused at the least row.
-abbrev pub Refuses : Machine → Answer → Type 0
-Refuses m Placed = ⊥
-Refuses m (Refused number row) = Refusal (ruling m) m number row
 
 -- The program is placed, with its words and shapes in the codes; or refused at the least row.
 abbrev pub Solves : Machine → Codes → Answer → Type 0
