@@ -13,7 +13,7 @@ use Rattle.model.specs.Closed.{Beneath, itself, child, Inside}
 use Rattle.model.specs.WellFormed.{TermStands, WellFormed}
 use Rattle.model.specs.declared.Term.{Term}
 use Rattle.model.specs.declared.Term.the-variants.{Lam, App, Op, Var, Num, Enc}
-use Rattle.table.proofs.Tests.{or-cases}
+use Rattle.checks.proofs.Tests.{or-cases}
 use Rattle.closed.specs.Members.{member}
 use Rattle.closed.proofs.Bits.{none-member}
 

@@ -19,15 +19,15 @@ use Rattle.model.specs.declared.TermRow.{TermRow}
 use Rattle.model.specs.declared.Term.{Term}
 use Rattle.model.specs.declared.Term.the-variants.{Lam, App, Op, Var, Num, Enc}
 use Rattle.scheme.proofs.Every.{and-left, and-both}
-use Rattle.table.proofs.Tests.{any-at, some-at}
+use Rattle.checks.specs.Children.{listed}
+use Rattle.checks.specs.Marks.{stores}
+use Rattle.checks.specs.declared.term.Children.{Children}
+use Rattle.checks.specs.declared.term.Children.the-variants.{One, Two}
+use Rattle.checks.proofs.Tests.{any-at, some-at}
+use Rattle.checks.proofs.Marking.{length-stores, stored-other, stored-there}
 use Rattle.table.specs.Lists.{lists}
-use Rattle.table.specs.Children.{listed}
-use Rattle.table.specs.Marks.{stores}
 use Rattle.table.specs.declared.Table.{Table}
-use Rattle.table.specs.declared.term.Children.{Children}
-use Rattle.table.specs.declared.term.Children.the-variants.{One, Two}
 use Rattle.table.proofs.Entries.{row-at}
-use Rattle.table.proofs.Marking.{length-stores, stored-other, stored-there}
 use Rattle.closed.specs.Members.{member}
 use Rattle.closed.specs.Reads.{reads}
 use Rattle.closed.specs.Decides.{Tree, DecidesTree}

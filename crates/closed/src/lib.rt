@@ -10,10 +10,10 @@ ghost use Rattle.table.specs.Lists.{lists};
 ghost use Rattle.closed.specs.Members.{member};
 ghost use Rattle.closed.specs.Reads.{reads};
 ghost use Rattle.closed.specs.Decides.{Decides, DecidesTree};
+use checks::term::Children;
+use checks::term::children_of;
 use model::Term;
 use table::Table;
-use table::term::Children;
-use table::term::children_of;
 
 mod members;
 

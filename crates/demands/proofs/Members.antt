@@ -8,7 +8,7 @@ use lib.Dec.{eqb, ltb}
 use borrow.Author.Tests.{eqb-true, eqb-false, eq-eqb, ltb-true, ltb-false, le-ltb}
 use Rattle.scheme.proofs.Every.{and-left, and-right}
 use Rattle.model.specs.Lists.{anyOf, allOf, contains}
-use Rattle.table.proofs.Tests.{or-cases}
+use Rattle.checks.proofs.Tests.{or-cases}
 use Rattle.demands.specs.Refusals.{inFrontOf}
 
 -- A number of the longer list is the first or one of the rest.

@@ -1,11 +1,8 @@
 pub mod Counts
 pub mod Names
 pub mod Entries
-pub mod Tests
-pub mod Refusals
 pub mod Scan
 pub mod Stored
 pub mod Codes
 pub mod WellFormed
-pub mod Marking
 pub mod Follows

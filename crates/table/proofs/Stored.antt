@@ -19,8 +19,8 @@ use Rattle.model.specs.declared.Term.{Term}
 use Rattle.model.specs.declared.TermRow.{TermRow}
 use Rattle.model.specs.declared.Line.the-variants.{TypeLine, ParamLine, TermLine, NoForm}
 use Rattle.model.proofs.Checks.{passed}
+use Rattle.checks.specs.Standing.{Free}
 use Rattle.table.specs.Lists.{lists, change}
-use Rattle.table.specs.Standing.{Free}
 use Rattle.table.specs.declared.Table.{Table}
 use Rattle.table.specs.declared.Answered.{Answered}
 

@@ -2,7 +2,7 @@
 use Prim.Native.Nat.{ℕ, suc, _+_, _-_, _<_}
 use native.Mathlib.Omega.{arith}
 use native.Mathlib.Decide.{ℕ-discrete, decLt}
-use mathlib.Core.Bool.{Bool, true, false, not, _&&_}
+use mathlib.Core.Bool.{Bool, true, false, not}
 use mathlib.Core.List.{List, [], _∷_, _++_}
 use mathlib.Core.Path.{_≡_, refl, ap, sym, subst, _∙_}
 use lib.Dec.{eqb, ltb}
@@ -13,7 +13,7 @@ use Rattle.scheme.specs.Schemes.{SchemeTable, words, Sound}
 use Rattle.scheme.proofs.Every.{and-left, and-right}
 use Rattle.model.specs.Lists.{anyOf, allOf, contains}
 use Rattle.model.specs.Line.{lineOf}
-use Rattle.model.specs.Machine.{Machine, freshMachine, noTypeRow, noParam, noTermRow, withQualifier, paramAt, termAt, children, named, binds, parts, used, bound, twice, typeRefusal, paramRefusal, termRefusal, entered, added, redeclared, takenBack}
+use Rattle.model.specs.Machine.{Machine, freshMachine, noTypeRow, noParam, noTermRow, withQualifier, paramAt, termAt, children, named, binds, parts, used, twice, entered, added, redeclared, takenBack}
 use Rattle.model.specs.WellFormed.{TypeStands, ParamStands, TermStands, WellFormed}
 use Rattle.model.specs.Session.{Call, Outcome, Answers, adds, redeclares, takes-back, infers}
 use Rattle.model.specs.declared.TypeForm.{TypeForm}
@@ -25,7 +25,8 @@ use Rattle.model.specs.declared.TermRow.{TermRow}
 use Rattle.model.specs.declared.Line.{Line}
 use Rattle.model.specs.declared.Line.the-variants.{TypeLine, ParamLine, TermLine, NoForm}
 use Rattle.model.proofs.Checks.{passed, settled-keeps}
-use Rattle.table.proofs.Tests.{or-cases, or-neither, any-at}
+use Rattle.checks.proofs.Tests.{or-cases, or-neither, any-at}
+use Rattle.checks.proofs.Passed.{TypePassed, type-passed, ParamPassed, param-passed, TermPassed, term-passed}
 use Rattle.table.proofs.Entries.{taken}
 use Rattle.table.proofs.Codes.{FormCodes, TermCodes, ParamCodes, LineCodes, line-codes}
 
@@ -64,51 +65,6 @@ none-of test [] c e h = cc
 none-of test (a ∷ l) c e h =
     let neither = or-neither (test a) (anyOf test l) e in
     or-cases (eqb c a) (contains c l) h (λ same. rw (eqb-true c a same) (neither .0)) (λ later. none-of test l c (neither .1) later)
-
--- What the checks of an accepted add say.
-record TypePassed (m : Machine) (i : ℕ) (form : TypeForm) : Type 0 where
-  next : i ≡ length (m .types)
-  room : length (m .types) < 64
-  below : allOf (λ t. ltb t i) (parts form) ≡ true
-
-type-passed : (m : Machine) (i : ℕ) (form : TypeForm) → typeRefusal m i form ≡ 0 → TypePassed m i form
-unfolding typeRefusal
-type-passed m i form e =
-    let two = passed 2 _ _ (omega arith) e in
-    let three = passed 3 _ _ (omega arith) (two .1) in
-    let four = passed 4 _ _ (omega arith) (three .1) in
-    record { next = eqb-true i _ (two .0); room = ltb-true _ 64 (three .0); below = four .0 }
-
-record ParamPassed (m : Machine) (param : Param) : Type 0 where
-  room : length (m .params) < 64
-  declared : param .typerow < length (m .types)
-
-param-passed : (m : Machine) (p : ℕ) (param : Param) → paramRefusal m p param ≡ 0 → ParamPassed m param
-unfolding paramRefusal
-param-passed m p param e =
-    let two = passed 2 _ _ (omega arith) e in
-    let three = passed 3 _ _ (omega arith) (two .1) in
-    let four = passed 4 _ _ (omega arith) (three .1) in
-    record { room = ltb-true _ 64 (three .0); declared = ltb-true _ _ (four .0) }
-
-pub record TermPassed (m : Machine) (i : ℕ) (term : Term) : Type 0 where
-  pub next : i ≡ length (m .terms)
-  pub room : length (m .terms) < 256
-  pub declared : allOf (λ p. ltb p (length (m .params))) (named term) ≡ true
-  pub below : allOf (λ c. ltb c i) (children term) ≡ true
-  free : (not (anyOf (used (m .terms)) (children term)) && not (twice (children term))) ≡ true
-  unbound : not (anyOf (bound (m .terms)) (binds term)) ≡ true
-
-pub term-passed : (m : Machine) (i : ℕ) (term : Term) → termRefusal m i term ≡ 0 → TermPassed m i term
-unfolding termRefusal
-term-passed m i term e =
-    let two = passed 2 _ _ (omega arith) e in
-    let three = passed 3 _ _ (omega arith) (two .1) in
-    let five = passed 5 _ _ (omega arith) (three .1) in
-    let six = passed 6 _ _ (omega arith) (five .1) in
-    let seven = passed 7 _ _ (omega arith) (six .1) in
-    let eight = passed 8 _ _ (omega arith) (seven .1) in
-    record { next = eqb-true i _ (two .0); room = ltb-true _ 256 (three .0); declared = five .0; below = six .0; free = seven .0; unbound = eight .0 }
 
 -- The new entry stands.
 type-stands : (names : List (List ℕ)) (form : TypeForm) (i : ℕ) → FormCodes names form → allOf (λ t. ltb t i) (parts form) ≡ true → TypeStands (suc (length names)) i form

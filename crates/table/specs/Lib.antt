@@ -1,7 +1,3 @@
 pub mod Lists
-pub mod Children
-pub mod Sought
-pub mod Standing
-pub mod Marks
 pub mod Called
 pub mod Ready

@@ -8,9 +8,16 @@ ghost use Rattle.model.specs.Machine.{freshMachine, children, binds, used, boun
 ghost use Rattle.scheme.specs.Six.{sixTable};
 ghost use Rattle.schemes.specs.Schemes.{tableIn, Kept};
 ghost use Rattle.model.specs.SchemeFile.{opened};
+ghost use Rattle.checks.specs.Marks.{Marked};
+ghost use Rattle.checks.specs.Sought.{namedBy};
 ghost use Rattle.table.specs.Lists.{lists, change};
-ghost use Rattle.table.specs.Marks.{Marked};
-ghost use Rattle.table.specs.Sought.{namedBy};
+use checks::param_refusal;
+use checks::term::Children;
+use checks::term::Sought;
+use checks::term::children_of;
+use checks::term::names;
+use checks::term_refusal;
+use checks::type_refusal;
 use model::Line;
 use model::Param;
 use model::Term;
@@ -18,18 +25,6 @@ use model::TermRow;
 use model::TypeForm;
 use model::TypeRow;
 use schemes::Schemes;
-
-mod checks;
-pub mod marks;
-pub mod term;
-
-use checks::param_refusal;
-use checks::term_refusal;
-use checks::type_refusal;
-use term::Children;
-use term::Sought;
-use term::children_of;
-use term::names;
 
 // The entries that stand are the first ones of each array, as many as its count says; they are read by the scheme table.
 pub struct Table {
@@ -120,22 +115,6 @@ impl Table {
         filled(self.termcount, Table::TERMS)
     }
 
-    // Whether some row has the child.
-    pub fn is_used(self, child: u16) -> bool
-        ensures { λ r. ⌜ r ≡ used (lists self .terms) child ⌝ }
-    {
-        let terms = self.terms;
-        some_row(terms, self.termcount, Sought::Child(child))
-    }
-
-    // Whether some LAM binds the parameter.
-    pub fn is_bound(self, p: u16) -> bool
-        ensures { λ r. ⌜ r ≡ bound (lists self .terms) p ⌝ }
-    {
-        let terms = self.terms;
-        some_row(terms, self.termcount, Sought::Binder(p))
-    }
-
     // The number of the first check that refuses a line, or 0, by the marks of the rows that stand.
     pub fn refusal(
         self,
@@ -145,7 +124,7 @@ impl Table {
     ) -> u16
         ensures { λ r. ⌜ (Marked (lists self .terms) (now (used .entry)) (now (bound .entry)) → r ≡ entered (lists self) line .number) ⌝ }
     {
-        marks::refusal(
+        checks::marks::refusal(
             line,
             self.type_rows(),
             self.parameters(),

@@ -10,11 +10,11 @@ use Rattle.model.specs.declared.TypeRow.{TypeRow}
 use Rattle.model.specs.declared.Param.{Param}
 use Rattle.model.specs.declared.Term.{Term}
 use Rattle.model.specs.declared.TermRow.{TermRow}
+use Rattle.checks.specs.Marks.{stores, Marked, Within}
+use Rattle.checks.proofs.Marking.{marked-none, marked-more}
 use Rattle.table.specs.Lists.{lists}
-use Rattle.table.specs.Marks.{stores, Marked, Within}
 use Rattle.table.specs.declared.Table.{Table}
 use Rattle.table.proofs.Counts.{Owned, types-whole, params-whole, terms-whole}
-use Rattle.table.proofs.Marking.{marked-none, marked-more}
 use Rattle.table.proofs.Stored.{with-types, with-params, with-terms, appended}
 
 -- The arrays are whole, and the marks are those of the rows that stand.

@@ -20,18 +20,18 @@ use Rattle.model.specs.declared.Param.{Param}
 use Rattle.model.specs.declared.Term.{Term}
 use Rattle.model.specs.declared.Line.{Line}
 use Rattle.model.specs.declared.Line.the-variants.{TypeLine, ParamLine, TermLine, NoForm}
+use Rattle.checks.specs.Marks.{stores, Marked, Within}
+use Rattle.checks.proofs.Marking.{passed-within}
+use Rattle.checks.proofs.Passed.{term-passed}
 use Rattle.table.specs.Lists.{lists, change}
-use Rattle.table.specs.Marks.{stores, Marked, Within}
 use Rattle.table.specs.Ready.{Ready}
 use Rattle.table.specs.Called.{adds}
 use Rattle.table.specs.declared.Table.{Table}
 use Rattle.table.specs.declared.Answered.{Answered}
 use Rattle.table.proofs.Follows.{fresh-ready, call-ready}
 use Rattle.table.proofs.Counts.{Owned}
-use Rattle.table.proofs.Marking.{passed-within}
 use Rattle.table.proofs.Names.{read-added}
 use Rattle.table.proofs.Stored.{with-types, with-params, with-terms, accepting, type-room, type-stored, param-room, param-stored, term-room, term-stored}
-use Rattle.table.proofs.WellFormed.{term-passed}
 use Rattle.lines.specs.Lines.{lineLength}
 use Rattle.lines.proofs.Lines.{end-bound, end-fits, line-part}
 use Rattle.line.specs.Names.{Few}

@@ -3,13 +3,13 @@ ghost use mathlib.Core.Path.{_≡_};
 ghost use Rattle.schemes.specs.Schemes.{tableIn, Kept};
 ghost use Rattle.text.specs.Begins.{Begins};
 ghost use Rattle.text.specs.Loads.{Loads};
+use checks::marks::mark;
 use lines::line_end;
 use model::Line;
 use model::TermRow;
 use model::TypeRow;
 use schemes::Schemes;
 use table::Table;
-use table::marks::mark;
 
 // What the adds of a text came to: the table, and the number and the line of the add that was refused; 0 and 0 where none was.
 pub struct Loaded {

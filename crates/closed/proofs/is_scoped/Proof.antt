@@ -7,9 +7,9 @@ use mathlib.Core.Path.{ap}
 use mathlib.Core.Path.{refl, sym}
 use lib.ListN.{replicate}
 use borrow.Author.Needs.{needs}
-use Rattle.table.specs.Children.{listed}
+use Rattle.checks.specs.Children.{listed}
+use Rattle.checks.proofs.Marking.{repeated}
 use Rattle.table.specs.Lists.{lists}
-use Rattle.table.proofs.Marking.{repeated}
 use Rattle.closed.proofs.Walk.{Walked, walk-starts, walk-ends, row-within, only-within, first-within, second-within, row-not-reached, var-not-found, row-turned}
 use Rattle.closed.proofs.is_scoped.Statement.{statement}
 use Rattle.closed.proofs.is_scoped.Tie as tie

@@ -2,7 +2,7 @@
 use mathlib.Core.Path.{ap}
 use borrow.Author.Needs.{needs}
 use Rattle.model.specs.Machine.{binds}
-use Rattle.table.proofs.Tests.{one-untaken}
+use Rattle.checks.proofs.Tests.{one-untaken}
 use Rattle.table.proofs.binder_free.Statement.{statement}
 use Rattle.table.proofs.binder_free.Tie as tie
 

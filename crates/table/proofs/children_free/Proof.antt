@@ -1,8 +1,8 @@
 -- Each way returns the check's value at the children that the row has.
 use mathlib.Core.Path.{sym, ap, _∙_}
 use borrow.Author.Needs.{needs}
-use Rattle.table.specs.Children.{listed}
-use Rattle.table.proofs.Tests.{none-free, one-free, same-not-free, first-not-free, second-free}
+use Rattle.checks.specs.Children.{listed}
+use Rattle.checks.proofs.Tests.{none-free, one-free, same-not-free, first-not-free, second-free}
 use Rattle.table.proofs.children_free.Statement.{statement}
 use Rattle.table.proofs.children_free.Tie as tie
 

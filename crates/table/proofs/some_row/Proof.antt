@@ -4,7 +4,7 @@ use mathlib.Core.Path.{_≡_}
 use lib.ListN.{take, drop}
 use borrow.Author.Needs.{needs}
 use Rattle.model.specs.Lists.{anyOf}
-use Rattle.table.specs.Sought.{namedBy}
+use Rattle.checks.specs.Sought.{namedBy}
 use Rattle.table.proofs.Counts.{counted}
 use Rattle.table.proofs.Scan.{scan-found, scan-passed, scan-over}
 use Rattle.table.proofs.some_row.Statement.{statement}

@@ -1,0 +1,4 @@
+pub mod Tests
+pub mod Refusals
+pub mod Passed
+pub mod Marking

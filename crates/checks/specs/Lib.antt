@@ -1,0 +1,4 @@
+pub mod Children
+pub mod Sought
+pub mod Standing
+pub mod Marks
