@@ -4,10 +4,10 @@ ghost use mathlib.Core.List.{List};
 ghost use Prim.Native.Nat.{ℕ};
 ghost use Rattle.model.specs.Script.{begins, beforeBlank, redeclareOf, argument, afterBlank, commandOf};
 ghost use Rattle.command.specs.Said.{said};
-use line::numbers::number_in;
-use line::words::same;
 use lines::find;
 use model::Field;
+use tokens::numbers::number_in;
+use tokens::words::same;
 
 // A command; the line of an add starts after its first four bytes, "add ", and the lines of a scheme file after their eight, "schemes ".
 pub enum Command {

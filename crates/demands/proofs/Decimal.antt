@@ -13,7 +13,7 @@ use Rattle.model.specs.Machine.{Machine}
 use Rattle.model.specs.Inference.{Slot, Shape}
 use Rattle.model.specs.Report.{line, lines, variableLine, paramLine, rowLine, report}
 use Rattle.model.specs.declared.Field.the-variants.{Value, NoValue}
-use Rattle.line.proofs.RoundTrip.{number-of-decimal}
+use Rattle.tokens.proofs.RoundTrip.{number-of-decimal}
 
 passed : (t : Bool) (v n : ℕ) → cond t (Value v) NoValue ≡ Value n → t ≡ true
 passed true v n e = refl

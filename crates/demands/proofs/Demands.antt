@@ -29,7 +29,7 @@ use Rattle.model.proofs.Answers.{session-same}
 use Rattle.model.proofs.Files.{six-file}
 use Rattle.model.proofs.LongFiles.{opened-front}
 use Rattle.model.proofs.LongLines.{reply-front}
-use Rattle.line.proofs.RoundTrip.{word-exactly}
+use Rattle.tokens.proofs.RoundTrip.{word-exactly}
 use Rattle.table.specs.Lists.{lists}
 use Rattle.table.specs.Called.{Called}
 use Rattle.table.specs.declared.Table.{Table}

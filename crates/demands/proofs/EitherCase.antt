@@ -20,7 +20,7 @@ use Rattle.model.proofs.Lists.{same-other}
 use Rattle.model.proofs.Keeps.{answers-keep}
 use Rattle.model.proofs.Answers.{answers-same}
 use Rattle.model.proofs.Capitals.{capitals-length, fields-capitals, field-capitals, read-alike, spells-capitals, word-capitals, scheme-capitals, operation-capitals, number-capitals}
-use Rattle.line.proofs.Bounds.{word-below, variable-cases, qualifier-cases}
+use Rattle.tokens.proofs.Bounds.{word-below, variable-cases, qualifier-cases}
 use Rattle.text.proofs.Front.{prints-loaded, returns-loaded}
 use Rattle.demands.specs.Traces.{callsOf, outcomesOf}
 use Rattle.demands.specs.InTurn.{InTurn, none, next}

@@ -19,7 +19,7 @@ use Rattle.model.specs.declared.Line.{Line}
 use Rattle.model.specs.declared.Line.the-variants.{NoForm}
 use Rattle.model.proofs.Lists.{same-bytes}
 use Rattle.model.proofs.Capitals.{capitals-contain, spells-exactly}
-use Rattle.line.proofs.Bounds.{variable-cases, qualifier-cases, floor-cases}
+use Rattle.tokens.proofs.Bounds.{variable-cases, qualifier-cases, floor-cases}
 use Rattle.demands.proofs.Decimal.{number-digits}
 use Rattle.demands.proofs.Without.{kind-without, fields-contain, parts-without}
 

@@ -21,7 +21,7 @@ use Rattle.model.specs.Script.{Command, commandOf, beforeBlank, afterBlank, arg
 use Rattle.model.specs.Script as Script
 use Rattle.model.proofs.Checks.{settled-refused, settled-accepted}
 use Rattle.model.proofs.Scripts.{not-made, not-schemes, conversation-same}
-use Rattle.line.proofs.RoundTrip.{number-of-decimal}
+use Rattle.tokens.proofs.RoundTrip.{number-of-decimal}
 use Rattle.starred.specs.Starred.{All}
 use Rattle.demands.specs.Traces.{callsOf}
 use Rattle.demands.specs.InTurn.{InTurn}

@@ -9,8 +9,9 @@ use Rattle.model.specs.Number.{numberOf}
 use Rattle.model.specs.Line.{fields, field, number}
 use Rattle.model.specs.declared.Field.{Field}
 use Rattle.model.specs.declared.Field.the-variants.{Value, NoValue}
-use Rattle.line.specs.Part.{fieldsFrom, FieldTo, Begun}
-use Rattle.line.proofs.Parting.{from-within, from-past}
+use Rattle.tokens.specs.Part.{fieldsFrom, FieldTo}
+use Rattle.tokens.proofs.Parting.{from-within, from-past}
+use Rattle.line.specs.Beginning.{Begun}
 
 -- The tag, up to `end`.
 module _ (s : List ℕ) (end : ℕ) (f : FieldTo s 0 end) where

@@ -16,10 +16,11 @@ use Rattle.model.specs.declared.Field.{Field}
 use Rattle.model.specs.declared.Field.the-variants.{Value, NoValue}
 use Rattle.model.specs.declared.Line.{Line}
 use Rattle.model.specs.declared.Line.the-variants.{ParamLine, NoForm}
-use Rattle.line.specs.Part.{fieldsFrom, FieldTo, Begun}
-use Rattle.line.specs.Form.{valueOf, noValues, put, complete, onward, valuesFrom, valuesOf}
+use Rattle.tokens.specs.Part.{fieldsFrom, FieldTo}
+use Rattle.tokens.specs.Form.{valueOf, noValues, put, complete, onward, valuesFrom, valuesOf}
+use Rattle.tokens.specs.declared.values.Values.{Values}
+use Rattle.line.specs.Beginning.{Begun}
 use Rattle.line.specs.Made.{made, intForm, anyForm, arrowForm, paramForm, lamForm, appForm, opForm, varForm, numForm, encForm}
-use Rattle.line.specs.declared.values.Values.{Values}
 use Rattle.line.proofs.Beginning.{begun-next}
 
 module _ (names : List (List ℕ)) (form : Values → Line) (before : ℕ) where

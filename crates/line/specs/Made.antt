@@ -7,7 +7,7 @@ use Rattle.model.specs.declared.TypeForm.the-variants.{Int, Any, Arrow}
 use Rattle.model.specs.declared.Term.the-variants.{Lam, App, Op, Var, Num, Enc}
 use Rattle.model.specs.declared.Line.{Line}
 use Rattle.model.specs.declared.Line.the-variants.{TypeLine, ParamLine, TermLine, NoForm}
-use Rattle.line.specs.declared.values.Values.{Values}
+use Rattle.tokens.specs.declared.values.Values.{Values}
 
 -- Where not all values are there, the line has none of the forms.
 abbrev pub made : (Values → Line) → Values → Line

@@ -3,11 +3,11 @@ ghost use mathlib.Core.Path.{_≡_};
 ghost use Rattle.model.specs.Line.{choose};
 ghost use Rattle.model.specs.declared.Line.the-variants.{NoForm};
 ghost use Rattle.line.specs.Made.{made, intForm, anyForm, arrowForm, paramForm, lamForm, appForm, opForm, varForm, numForm, encForm};
-use crate::values::Values;
 use model::Line;
 use model::Param;
 use model::Term;
 use model::TypeForm;
+use tokens::values::Values;
 
 // The line, where all of its values are there.
 fn line_of(all: bool, line: Line) -> Line

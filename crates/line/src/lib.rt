@@ -1,18 +1,19 @@
 // Reads a line: which of the ten forms its bytes are, with the numbers and codes that stand in it. A form's fields are told by one letter for the kind of each.
-pub mod fields;
 mod forms;
-pub mod numbers;
-mod values;
-pub mod words;
 
 ghost use mathlib.Core.Path.{_≡_};
 ghost use Prim.Native.Nat.{_≤_};
 ghost use lib.ListN.{length};
-ghost use Rattle.line.specs.Names.{Few};
-ghost use Rattle.line.specs.Part.{fieldsFrom, Begun};
 ghost use Rattle.model.specs.Line.{fields, typeLine, paramLine, leafLine, termLine, lineOf};
+ghost use Rattle.tokens.specs.Names.{Few};
+ghost use Rattle.tokens.specs.Part.{fieldsFrom};
+ghost use Rattle.line.specs.Beginning.{Begun};
 use model::Field;
 use model::Line;
+use tokens::fields;
+use tokens::numbers;
+use tokens::values;
+use tokens::words;
 
 // A type row of the number i, whose kind starts at `from`.
 fn type_line(names: &[u8], s: &[u8], i: u16, from: usize) -> Line

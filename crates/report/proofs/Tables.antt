@@ -12,7 +12,7 @@ use borrow.Author.Tests.{leb-true, ltb-true, ltb-false}
 use Rattle.scheme.proofs.Every.{and-left, and-right}
 use Rattle.model.specs.Lists.{allOf}
 use Rattle.model.specs.Line.{onto, fields}
-use Rattle.line.proofs.Parting.{onto-first, onto-later, some-field, at-comma, at-other}
+use Rattle.tokens.proofs.Parting.{onto-first, onto-later, some-field, at-comma, at-other}
 use Rattle.report.specs.Writing.{firstWords, Tabled, Spelled}
 use Rattle.report.specs.Written.{Short}
 

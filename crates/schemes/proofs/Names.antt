@@ -15,7 +15,7 @@ use Rattle.model.specs.Line.{onto, fields, field, linesOf}
 use Rattle.model.specs.SchemeFile.{isCapital, isName, tableOf}
 use Rattle.scheme.proofs.Schemes.{name-short}
 use Rattle.model.proofs.Opened.{line-name}
-use Rattle.line.proofs.Parting.{some-field}
+use Rattle.tokens.proofs.Parting.{some-field}
 use Rattle.schemes.specs.Lines.{lineAt, nameAt, Formed}
 use Rattle.schemes.specs.Stored.{Put, NamesHeld}
 use Rattle.schemes.proofs.Storing.{formed-at}

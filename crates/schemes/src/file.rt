@@ -4,8 +4,8 @@ ghost use lib.ListN.{length};
 ghost use Rattle.model.specs.Line.{linesOf};
 ghost use Rattle.schemes.specs.Lines.{StartsAt, lineAt, nameAt, wellFormed};
 use crate::form::is_scheme_line;
-use line::fields;
 use lines::line_end;
+use tokens::fields;
 
 // How many lines there are.
 pub(crate) fn count(file: &[u8]) -> usize

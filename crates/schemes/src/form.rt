@@ -2,9 +2,9 @@
 ghost use mathlib.Core.Path.{_≡_};
 ghost use Rattle.model.specs.SchemeFile.{isName, isBits, isSchemeLine};
 ghost use Rattle.schemes.specs.Lines.{allBetween};
-use line::fields;
-use line::words::same;
 use scheme::OPERATIONS;
+use tokens::fields;
+use tokens::words::same;
 
 // A name's most bytes.
 const LONGEST: usize = 5;

@@ -4,9 +4,9 @@ ghost use Prim.Native.Nat.{_<_, _≤_};
 ghost use Rattle.schemes.specs.Pairs.{sameName, alikeAt, alone, apart};
 use crate::file::name;
 use derive::Bits;
-use line::words::same;
 use scheme::OPERATIONS;
 use scheme::SCHEMES;
+use tokens::words::same;
 
 // Whether no other line has the name of line i.
 fn name_alone(file: &[u8], n: usize, i: usize) -> bool

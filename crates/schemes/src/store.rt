@@ -10,9 +10,9 @@ use crate::NAMES;
 use crate::file::line;
 use crate::file::name;
 use derive::Bits;
-use line::fields;
 use scheme::OPERATIONS;
 use scheme::SCHEMES;
+use tokens::fields;
 
 // Five digits as Booleans.
 fn digits(s: &[u8]) -> Bits

@@ -16,7 +16,7 @@ use Rattle.model.specs.declared.Term.{Term}
 use Rattle.model.specs.declared.Term.the-variants.{Lam, App, Op, Var, Num, Enc}
 use Rattle.model.specs.declared.Line.{Line}
 use Rattle.model.specs.declared.Line.the-variants.{TypeLine, ParamLine, TermLine, NoForm}
-use Rattle.line.proofs.Bounds.{number-at-most, qualifier-below, floor-below, scheme-between, operation-below}
+use Rattle.tokens.proofs.Bounds.{number-at-most, qualifier-below, floor-below, scheme-between, operation-below}
 
 module _ (names : List (List ℕ)) where
   -- How many words there are.

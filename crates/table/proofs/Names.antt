@@ -12,8 +12,8 @@ use Rattle.model.specs.Line.{fields, lineOf}
 use Rattle.model.specs.Machine.{Machine, freshMachine, entered, added}
 use Rattle.model.specs.SchemeFile.{openedWith, opened}
 use Rattle.model.specs.declared.Line.{Line}
-use Rattle.line.specs.Names.{Few}
-use Rattle.line.proofs.Parting.{fields-most}
+use Rattle.tokens.specs.Names.{Few}
+use Rattle.tokens.proofs.Parting.{fields-most}
 use Rattle.table.specs.Lists.{lists, change}
 use Rattle.table.specs.declared.Table.{Table}
 

@@ -237,7 +237,7 @@ impl Table {
             };
         }
         let names = self.schemes.names;
-        let words = line::fields::count(schemes::front(&names, self.schemes.size)) + 1;
+        let words = tokens::fields::count(schemes::front(&names, self.schemes.size)) + 1;
         if words + 64 <= code {
             return Answered {
                 table: self,

@@ -34,7 +34,7 @@ use Rattle.table.proofs.Names.{read-added}
 use Rattle.table.proofs.Stored.{with-types, with-params, with-terms, accepting, type-room, type-stored, param-room, param-stored, term-room, term-stored}
 use Rattle.lines.specs.Lines.{lineLength}
 use Rattle.lines.proofs.Lines.{end-bound, end-fits, line-part}
-use Rattle.line.specs.Names.{Few}
+use Rattle.tokens.specs.Names.{Few}
 use Rattle.text.specs.Begins.{Begins}
 use Rattle.text.specs.Loads.{Loads}
 use Rattle.text.specs.declared.Loaded.{Loaded}

@@ -3,7 +3,7 @@ use mathlib.Core.List.{List}
 use mathlib.Core.Path.{_≡_}
 use Prim.Native.Nat.{ℕ}
 use lib.ListN.{take}
-use Rattle.line.specs.Names.{Few}
+use Rattle.tokens.specs.Names.{Few}
 use Rattle.schemes.specs.Schemes.{tableIn, Kept}
 use Rattle.model.specs.Machine.{freshMachine}
 use Rattle.table.specs.Lists.{lists}

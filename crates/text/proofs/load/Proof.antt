@@ -1,7 +1,7 @@
 -- The empty table of the schemes is where the lines begin.
 use denote.Ref.{now}
 use borrow.Author.Needs.{needs}
-use Rattle.line.specs.Names.{Few}
+use Rattle.tokens.specs.Names.{Few}
 use Rattle.table.proofs.Names.{front-few}
 use Rattle.text.proofs.Turns.{empty-begins, loads-same}
 use Rattle.text.proofs.load.Statement.{statement}

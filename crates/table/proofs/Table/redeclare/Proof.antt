@@ -3,7 +3,7 @@ use native.Mathlib.Omega.{arith}
 use mathlib.Core.Path.{refl}
 use denote.Ref.{now}
 use borrow.Author.Needs.{needs}
-use Rattle.line.specs.Names.{Few}
+use Rattle.tokens.specs.Names.{Few}
 use Rattle.table.proofs.Names.{front-few, words-counted}
 use Rattle.table.proofs.Stored.{not-declared, code-past, redeclare-stored}
 use Rattle.table.proofs.Table.redeclare.Statement.{statement}

@@ -1,0 +1,6 @@
+pub mod Parting
+pub mod Digits
+pub mod Bounds
+pub mod Spelling
+pub mod Reading
+pub mod RoundTrip

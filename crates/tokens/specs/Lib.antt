@@ -1,0 +1,4 @@
+pub mod Part
+pub mod Names
+pub mod Look
+pub mod Form
