@@ -31,8 +31,8 @@ extern "C" {
 #define PLACEMENT_SCHEMES_LENGTH 113
 
 /*
- * Stack to have free for a call, in bytes. Measured for placement_report and placement_report_under: 39,000 for ordinary tables, 68,000 for the
- * deepest types found; for placement_session on the same lines: 61,000 and 90,000. Nothing proves a bound; kit/test measures all three anew and
+ * Stack to have free for a call, in bytes. Measured for placement_report and placement_report_under: 28,000 for ordinary tables, 57,000 for the
+ * deepest types found; for placement_session on the same lines: 50,000 and 79,000. Nothing proves a bound; kit/test measures all three anew and
  * holds them to this number.
  */
 #define PLACEMENT_STACK_LENGTH 131072
