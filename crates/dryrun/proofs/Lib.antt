@@ -1,0 +1,11 @@
+pub mod Determined
+pub mod Untagged
+pub mod Typed
+pub mod Free
+pub mod Progress
+pub mod Scoped
+pub mod Job
+pub mod Same
+pub mod Ends
+pub mod Examples
+pub mod Promises

@@ -1,0 +1,4 @@
+pub mod Expression
+pub mod Transition
+pub mod Run
+pub mod Free
