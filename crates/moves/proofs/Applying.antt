@@ -15,7 +15,7 @@ use Rattle.environments.specs.Standing.{Cells, Frames, Standing}
 use Rattle.environments.specs.Weights.{pointWeight}
 use Rattle.environments.proofs.Turns.{spent, called-function, applies-on}
 use Rattle.environments.proofs.Weights.{standing-light, step-remains}
-use Rattle.moves.specs.Moves.{cellsOf, Celled, Applies, Comes, Stands, Job, countsOf}
+use Rattle.moves.specs.Moves.{cellsOf, Celled, Applies, Comes, leads-on, stops, Stands, Job, countsOf}
 use Rattle.moves.specs.declared.Point.{Point}
 use Rattle.moves.specs.declared.Turn.the-variants.{On, Stop}
 use Rattle.moves.proofs.Arrays.{withCell, cell-kept, cell-bound, cell-celled, put-cell}
@@ -28,7 +28,7 @@ entered p b =
 
 module _ {term : Term} {held budget : ℕ} {c : Cells} {p : Point} (some : 0 < p .depth) where
   pub spent-at : p .applications + p .operations ≡ budget → Applies term held budget c c p (Stop 30)
-  spent-at all m word start f job ek is eh ev st = spent m (job .well-formed) word budget start (job .safe) (top-stands m word budget start c f p some ev st) all
+  spent-at all m word start f job ek is eh ev st = stops (spent m (job .well-formed) word budget start (job .safe) (top-stands m word budget start c f p some ev st) all)
 
   -- What is called is a function, and its row a LAM.
   no-lam : binds term ≡ [] → Applies term held budget c c p (Stop 30)
@@ -64,12 +64,13 @@ module _ {term : Term} {held budget : ℕ} {c : Cells} {p : Point} (some : 0 < p
     where
       lands : {c′ : Cells} → Standing m word budget start c′ f false (p .tag) b (suc (p .applications)) (p .depth - 1) (countsOf (entered p b)) →
           Comes m word budget start f p c′ f (On (entered p b))
-      lands {c′} st′ = (
-        subst (λ (n : ℕ). Standing m word budget start c′ f false (p .tag) b n (p .depth - 1) (countsOf (entered p b))) (omega arith) st′,
-        step-remains budget (countsOf p) (countsOf (entered p b)) (pointWeight f false b (p .depth - 1)) (pointWeight f (p .value) (p .number) (p .depth)) (omega arith) (omega arith)
-            (standing-light m (job .well-formed) word st′ (omega arith)),
-        omega arith,
-      )
+      lands {c′} st′ =
+          let next : suc (p .applications) ≡ p .applications + 1 = omega arith in
+          leads-on
+          (subst (λ (n : ℕ). Standing m word budget start c′ f false (p .tag) b n (p .depth - 1) (countsOf (entered p b))) next st′)
+          (step-remains budget (countsOf p) (countsOf (entered p b)) (pointWeight f false b (p .depth - 1)) (pointWeight f (p .value) (p .number) (p .depth)) (omega arith) (omega arith)
+          (standing-light m (job .well-formed) word st′ (omega arith)))
+          (omega arith)
 
   -- The same of the arrays that the code leaves.
   pub put-bound : {x b : ℕ} {q : Point} {params nexts tags values places : List ℕ} → term ≡ Lam x b → ¬ (p .applications + p .operations ≡ budget) → p .applications + p .operations ≤ budget →

@@ -14,7 +14,7 @@ use Rattle.environments.specs.Standing.{Cells, Frames, Standing}
 use Rattle.environments.specs.Weights.{pointWeight}
 use Rattle.environments.proofs.Turns.{spent, operates-on, overflows-at}
 use Rattle.environments.proofs.Weights.{standing-light, step-remains}
-use Rattle.moves.specs.Moves.{Operates, Comes, Stands, Job, countsOf}
+use Rattle.moves.specs.Moves.{Operates, Comes, leads-on, stops, Stands, Job, countsOf}
 use Rattle.moves.specs.declared.Point.{Point}
 use Rattle.moves.specs.declared.Turn.the-variants.{On, Stop}
 use Rattle.moves.proofs.Tops.{top-stands}
@@ -25,13 +25,13 @@ resulted p tag n = record { value = true; tag = tag; number = n; place = 0; dept
 
 module _ {budget : ℕ} {f : Frames} {p : Point} (some : 0 < p .depth) where
   pub spent-before : p .applications + p .operations ≡ budget → Operates budget f p (Stop 30)
-  spent-before all m word start c job ev st = spent m (job .well-formed) word budget start (job .safe) (top-stands m word budget start c f p some ev st) all
+  spent-before all m word start c job ev st = stops (spent m (job .well-formed) word budget start (job .safe) (top-stands m word budget start c f p some ev st) all)
 
   module _ {o result : ℕ} (low : p .depth ≤ suc mostContexts) (unspent : ¬ (p .applications + p .operations ≡ budget)) (above : leftKind 0 ≤ getD (f .kind) (p .depth - 1) 0)
       (code : o ≡ getD (f .kind) (p .depth - 1) 0 - leftKind 0) (is : result ≡ calculated o (getD (f .value) (p .depth - 1) 0) (p .number)) where
     pub overflows-past : largestNumber < result → Operates budget f p (Stop 29)
     overflows-past past m word start c job ev st =
-        overflows-at m (job .well-formed) word budget start (job .safe) (top-stands m word budget start c f p some ev st) o (omega arith) unspent (omega arith) (omega arith)
+        stops (overflows-at m (job .well-formed) word budget start (job .safe) (top-stands m word budget start c f p some ev st) o (omega arith) unspent (omega arith) (omega arith))
 
     pub operates-to : {t : ℕ} {q : Point} → p .applications + p .operations ≤ budget → result ≤ largestNumber → t ≡ resultTag o (p .tag) → q ≡ resulted p t result → Operates budget f p (On q)
     operates-to {t} {q} within fits et eq m word start c job ev st =
@@ -43,9 +43,8 @@ module _ {budget : ℕ} {f : Frames} {p : Point} (some : 0 < p .depth) where
 
         lands : Standing m word budget start c f true (resultTag o (p .tag)) n 0 (p .depth - 1) (countsOf (resulted p (resultTag o (p .tag)) n)) →
             Comes m word budget start f p c f (On (resulted p (resultTag o (p .tag)) n))
-        lands st′ = (
-          st′,
-          step-remains budget (countsOf p) (countsOf (resulted p (resultTag o (p .tag)) n)) (pointWeight f true n (p .depth - 1)) (pointWeight f (p .value) (p .number) (p .depth)) (omega arith) (omega arith)
-              (standing-light m (job .well-formed) word st′ (omega arith)),
-          omega arith,
-        )
+        lands st′ =
+            leads-on st′
+            (step-remains budget (countsOf p) (countsOf (resulted p (resultTag o (p .tag)) n)) (pointWeight f true n (p .depth - 1)) (pointWeight f (p .value) (p .number) (p .depth)) (omega arith) (omega arith)
+            (standing-light m (job .well-formed) word st′ (omega arith)))
+            (omega arith)

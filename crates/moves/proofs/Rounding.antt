@@ -17,7 +17,7 @@ use Rattle.environments.specs.Standing.{Cells, Frames, Standing}
 use Rattle.environments.specs.Weights.{pointWeight}
 use Rattle.environments.proofs.Turns.{Below, take-argument, take-number, take-right}
 use Rattle.environments.proofs.Weights.{turned-lighter, number-lighter, lighter-remains}
-use Rattle.moves.specs.Moves.{holdingKind, Framed, Job, Stands, Comes, countsOf, left, TurnsRound, framesOf}
+use Rattle.moves.specs.Moves.{holdingKind, Framed, Job, Stands, Comes, leads-on, countsOf, left, TurnsRound, framesOf}
 use Rattle.moves.specs.declared.Point.{Point}
 use Rattle.moves.specs.declared.Turn.the-variants.{On}
 use Rattle.moves.proofs.Arrays.{withFrame, Topped, frame-below, frame-topped, frame-framed, put-frame}
@@ -67,12 +67,12 @@ module _ (f : Frames) (p : Point) (some : 0 < p .depth) (low : p .depth ≤ suc 
     at-depth : (value? : Bool) (t n l : ℕ) → Standing m word budget start c after value? t n l (suc own) (countsOf p) → pointWeight after value? n (suc own) < pointWeight f true (p .number) (suc own) →
         Comes m word budget start f p c after (On (record { value = value?; tag = t; number = n; place = l; depth = p .depth; applications = p .applications; operations = p .operations }))
     at-depth value? t n l next lighter =
-        let d : suc own ≡ p .depth = omega arith in (
-          subst (λ (d : ℕ). Standing m word budget start c after value? t n l d (countsOf p)) d next,
-          lighter-remains budget (countsOf p) (pointWeight after value? n (p .depth)) (pointWeight f (p .value) (p .number) (p .depth))
-              (rw ev (subst (λ (d : ℕ). pointWeight after value? n d < pointWeight f true (p .number) d) d lighter)),
-          low,
-        )
+        let d : suc own ≡ p .depth = omega arith in
+        leads-on
+        (subst (λ (d : ℕ). Standing m word budget start c after value? t n l d (countsOf p)) d next)
+        (lighter-remains budget (countsOf p) (pointWeight after value? n (p .depth)) (pointWeight f (p .value) (p .number) (p .depth))
+        (rw ev (subst (λ (d : ℕ). pointWeight after value? n d < pointWeight f true (p .number) d) d lighter)))
+        low
 
     -- The point that is resumed, by whether it is at a value.
     abbrev Resumes : Bool → Type 0

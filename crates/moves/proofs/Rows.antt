@@ -19,7 +19,7 @@ use Rattle.environments.specs.Standing.{Cells, Frames}
 use Rattle.environments.specs.Weights.{pointWeight}
 use Rattle.environments.proofs.Turns.{at-lam, at-num, at-enc, at-var, at-app, at-op, deep, app-open, op-open, row-in-list}
 use Rattle.environments.proofs.Weights.{value-lighter, pushed-lighter, lighter-remains}
-use Rattle.moves.specs.Moves.{Sought, Framed, Job, Stands, countsOf, left, TurnsRow, framesOf}
+use Rattle.moves.specs.Moves.{Sought, Framed, leads-on, stops, Job, Stands, countsOf, left, TurnsRow, framesOf}
 use Rattle.moves.specs.declared.Point.{Point}
 use Rattle.moves.specs.declared.Turn.the-variants.{On, Stop}
 use Rattle.moves.proofs.Arrays.{withFrame, frame-below, frame-topped, frame-framed, put-frame}
@@ -60,34 +60,32 @@ module _ (f : Frames) (p : Point) where
 module _ {term : Term} {own : ℕ} {c : Cells} {f : Frames} {p : Point} (low : p .depth ≤ suc mostContexts) where
   pub on-lam : {x b : ℕ} {q : Point} → term ≡ Lam x b → q ≡ valued p functionTag (p .number) (p .place) → TurnsRow term own c f f p (On q)
   on-lam this eq m word budget start job is said ev st =
-      rw eq (at-lam m (job .well-formed) word budget start (job .safe) (rw ev at st) (is ∙ this), value-falls f p budget functionTag (p .number) (p .place) ev, low)
+      rw eq (leads-on (at-lam m (job .well-formed) word budget start (job .safe) (rw ev at st) (is ∙ this)) (value-falls f p budget functionTag (p .number) (p .place) ev) low)
 
   pub on-num : {n : ℕ} {q : Point} → term ≡ Num n → q ≡ valued p own n 0 → TurnsRow term own c f f p (On q)
   on-num {n} this eq m word budget start job is said ev st =
-      rw (eq, ← said) (at-num m (job .well-formed) word budget start (job .safe) (rw ev at st) (is ∙ this) (word-tagged job st ev), value-falls f p budget (word (row (p .number))) n 0 ev, low)
+      rw (eq, ← said) (leads-on (at-num m (job .well-formed) word budget start (job .safe) (rw ev at st) (is ∙ this) (word-tagged job st ev)) (value-falls f p budget (word (row (p .number))) n 0 ev) low)
 
   pub on-enc : {s n : ℕ} {q : Point} → term ≡ Enc s n → q ≡ valued p own n 0 → TurnsRow term own c f f p (On q)
   on-enc {s} {n} this eq m word budget start job is said ev st =
-      rw (eq, ← said) (at-enc m (job .well-formed) word budget start (job .safe) (rw ev at st) (is ∙ this) (word-tagged job st ev), value-falls f p budget (word (row (p .number))) n 0 ev, low)
+      rw (eq, ← said) (leads-on (at-enc m (job .well-formed) word budget start (job .safe) (rw ev at st) (is ∙ this) (word-tagged job st ev)) (value-falls f p budget (word (row (p .number))) n 0 ev) low)
 
   pub on-var : {x j : ℕ} {q : Point} → term ≡ Var x → Sought (c .param) (c .next) x (p .place) j →
       q ≡ valued p (getD (c .tag) j 0) (getD (c .value) j 0) (getD (c .place) j 0) → TurnsRow term own c f f p (On q)
   on-var {x} {j} this sought eq m word budget start job is said ev st =
-      rw eq (
-        at-var m (job .well-formed) word budget start (job .safe) (rw ev at st) (is ∙ this) (sought-found m (job .well-formed) word c (p .applications) x sought),
-        value-falls f p budget (getD (c .tag) j 0) (getD (c .value) j 0) (getD (c .place) j 0) ev,
-        low,
-      )
+      rw eq
+      (leads-on (at-var m (job .well-formed) word budget start (job .safe) (rw ev at st) (is ∙ this) (sought-found m (job .well-formed) word c (p .applications) x sought))
+      (value-falls f p budget (getD (c .tag) j 0) (getD (c .value) j 0) (getD (c .place) j 0) ev) low)
 
   pub deep-app : {x a : ℕ} → term ≡ App x a → mostContexts < p .depth → TurnsRow term own c f f p (Stop 30)
   deep-app this h m word budget start job is said ev st =
       let st′ = rw ev at st in
-      deep m (job .well-formed) word budget start (job .safe) st′ (app-open m (job .well-formed) word budget start (job .safe) st′ (is ∙ this)) h
+      stops (deep m (job .well-formed) word budget start (job .safe) st′ (app-open m (job .well-formed) word budget start (job .safe) st′ (is ∙ this)) h)
 
   pub deep-op : {o l r : ℕ} → term ≡ Op o l r → mostContexts < p .depth → TurnsRow term own c f f p (Stop 30)
   deep-op this h m word budget start job is said ev st =
       let st′ = rw ev at st in
-      deep m (job .well-formed) word budget start (job .safe) st′ (op-open m (job .well-formed) word budget start (job .safe) st′ (is ∙ this)) h
+      stops (deep m (job .well-formed) word budget start (job .safe) st′ (op-open m (job .well-formed) word budget start (job .safe) st′ (is ∙ this)) h)
 
   -- A row's operation is one of the five.
   pub no-op : {o l r : ℕ} → term ≡ Op o l r → 4 < o → TurnsRow term own c f f p (Stop 30)
@@ -100,24 +98,22 @@ module _ {term : Term} {own : ℕ} {c : Cells} {f : Frames} {p : Point} (low : p
   on-app {x} {a} {f′ = f′} this sized h ef eq m word budget start job is said ev st =
       let (hx, ha) = row-stands job st ev (is ∙ this) in
       let top = frame-topped f (p .depth) argumentKind 0 a (p .place) sized (omega arith) in
-      rw eq (
-        rw (ef, add-one)
-            (at-app m (job .well-formed) word budget start (job .safe) (rw ev at st) (is ∙ this) (frame-below f (p .depth) argumentKind 0 a (p .place)) (top .kind) (top .value) (top .place)),
-        pushed-falls f p budget x a argumentKind ev hx ha ef (omega arith) sized h,
-        omega arith,
-      )
+      rw eq
+      (leads-on {q = descended p x}
+      (rw (ef, add-one)
+      (at-app m (job .well-formed) word budget start (job .safe) (rw ev at st) (is ∙ this) (frame-below f (p .depth) argumentKind 0 a (p .place)) (top .kind) (top .value) (top .place)))
+      (pushed-falls f p budget x a argumentKind ev hx ha ef (omega arith) sized h) (omega arith))
 
   pub on-op : {o l r : ℕ} {q : Point} {f′ : Frames} → term ≡ Op o l r → Framed f → p .depth ≤ mostContexts → f′ ≡ withFrame f (p .depth) (rightKind o) 0 r (p .place) → q ≡ descended p l →
       TurnsRow term own c f f′ p (On q)
   on-op {o} {l} {r} {f′ = f′} this sized h ef eq m word budget start job is said ev st =
       let (five, hl, hr) = row-stands job st ev (is ∙ this) in
       let top = frame-topped f (p .depth) (rightKind o) 0 r (p .place) sized (omega arith) in
-      rw eq (
-        rw (ef, add-one)
-            (at-op m (job .well-formed) word budget start (job .safe) (rw ev at st) (is ∙ this) (frame-below f (p .depth) (rightKind o) 0 r (p .place)) (top .kind) (top .value) (top .place)),
-        pushed-falls f p budget l r (rightKind o) ev hl hr ef (omega arith) sized h,
-        omega arith,
-      )
+      rw eq
+      (leads-on {q = descended p l}
+      (rw (ef, add-one)
+      (at-op m (job .well-formed) word budget start (job .safe) (rw ev at st) (is ∙ this) (frame-below f (p .depth) (rightKind o) 0 r (p .place)) (top .kind) (top .value) (top .place)))
+      (pushed-falls f p budget l r (rightKind o) ev hl hr ef (omega arith) sized h) (omega arith))
 
   -- The same of the arrays that the code leaves.
   pub put-app : {x a : ℕ} {q : Point} {kinds tags values places : List ℕ} → term ≡ App x a → Framed f → p .depth ≤ mostContexts →

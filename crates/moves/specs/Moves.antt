@@ -66,9 +66,9 @@ abbrev pub left : ℕ → Frames → Point → ℕ
 left budget f p = remaining budget (countsOf p) (pointWeight f (p .value) (p .number) (p .depth))
 
 -- A move leads on, to a point of the same run with less left; or that run is refused with the number.
-abbrev pub Comes : Machine → (Slot → ℕ) → ℕ → Expression → Frames → Point → Cells → Frames → Turn → Type 0
-Comes m word budget start f p c′ f′ (On q) = Stands m word budget start c′ f′ q × (left budget f′ q < left budget f p) × (q .depth ≤ suc mostContexts)
-Comes m word budget start f p c′ f′ (Stop number) = Runs (Tagged (ruling m)) budget start nothingMade (refused number (countsOf p))
+pub data Comes (m : Machine) (word : Slot → ℕ) (budget : ℕ) (start : Expression) (f : Frames) (p : Point) (c′ : Cells) (f′ : Frames) : Turn → Type 0 where
+  leads-on : {q : Point} → Stands m word budget start c′ f′ q → left budget f′ q < left budget f p → q .depth ≤ suc mostContexts → Comes m word budget start f p c′ f′ (On q)
+  stops : {number : ℕ} → Runs (Tagged (ruling m)) budget start nothingMade (refused number (countsOf p)) → Comes m word budget start f p c′ f′ (Stop number)
 
 -- A run with its machine and its words: all that is known of it is that it is safe.
 pub record Job (m : Machine) (word : Slot → ℕ) (start : Expression) : Type 0 where
