@@ -1,12 +1,13 @@
 //! The C entries for dry runs as safe functions, runs that they are asked for, and the comparison with the reference.
 
 use crate::buffers::shown;
+use crate::slowest::Slowest;
 use second::counts::Counts;
 use second::generate::{Job, Random};
 use second::run_entry::Written;
 use second::{run_entry, run_entry_under};
 use std::fmt::{Display, Formatter, Result};
-use std::time::{Duration, Instant};
+use std::time::Instant;
 
 /// The functions as the library declares them; a slice passes as its pointer and its length.
 mod raw {
@@ -148,9 +149,6 @@ impl Display for Run<'_> {
     }
 }
 
-/// How long a call may take.
-const LIMIT: Duration = Duration::from_secs(1);
-
 /// What occurred in many comparisons.
 #[derive(Default)]
 pub struct Tally {
@@ -158,8 +156,8 @@ pub struct Tally {
     pub returned: Counts<u32>,
     /// The lengths of answers.
     pub lengths: Counts<usize>,
-    /// The longest time of a call, with the reference's comparison beside it.
-    slowest: Duration,
+    /// The slowest call.
+    slowest: Slowest,
 }
 
 impl Tally {
@@ -173,7 +171,12 @@ impl Tally {
         let expected = run.expected(length);
         let start = Instant::now();
         run.assert_answer(random, length, expected);
-        self.slowest = self.slowest.max(start.elapsed());
+        let time = start.elapsed();
+        let again = || {
+            run.ask(&mut [0; ANSWER_LENGTH]);
+        };
+        self.slowest
+            .take(time, again, || format!("{} steps, {} bytes", run.budget, run.text.len()));
         self.returned.add(expected.0);
         self.lengths.add(length);
         expected.0
@@ -181,8 +184,8 @@ impl Tally {
 
     /// Prints the counts for those who want to see them, and asserts that no call took too long.
     pub fn finish(&self, inputs: &str) {
-        println!("{inputs}: {:?}\n{:?}\n{:?}", self.returned.0, self.lengths.0, self.slowest);
-        assert!(self.slowest < LIMIT, "a call took {:?}", self.slowest);
+        println!("{inputs}: {:?}\n{:?}", self.returned.0, self.lengths.0);
+        self.slowest.assert_within_limit(inputs);
         self.lengths.assert_each(0..=20, 1);
     }
 }
