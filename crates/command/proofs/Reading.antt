@@ -9,12 +9,12 @@ use lib.ListN.{length, take, drop, length-take, length-drop, drop-of-length-le}
 use lib.Seq.{take-all}
 use Rattle.model.specs.Lists.{same, lengthBefore, bytes}
 use Rattle.model.specs.Number.{numberOf}
-use Rattle.model.specs.Script.{begins, beforeBlank, afterBlank, argument, redeclareOf, fileIn, commandOf}
-use Rattle.model.specs.Script as Script
+use Rattle.conversation.specs.Script.{begins, beforeBlank, afterBlank, argument, redeclareOf, fileIn, commandOf}
+use Rattle.conversation.specs.Script as Script
 use Rattle.model.specs.declared.Field.{Field}
 use Rattle.model.specs.declared.Field.the-variants.{Value, NoValue}
 use Rattle.model.proofs.Lists.{same-length, before-most}
-use Rattle.model.proofs.LongLines.{no-code}
+use Rattle.conversation.proofs.Front.{no-code}
 use Rattle.command.specs.Said.{said}
 use Rattle.command.specs.declared.Command.{Command}
 use Rattle.command.specs.declared.Command.the-variants.{Add, Redeclare, Schemes, Nothing}

@@ -2,8 +2,8 @@
 use Prim.Native.Nat.{ℕ}
 use mathlib.Core.List.{List}
 use lib.ListN.{drop}
-use Rattle.model.specs.Script.{fileIn}
-use Rattle.model.specs.Script as Script
+use Rattle.conversation.specs.Script.{fileIn}
+use Rattle.conversation.specs.Script as Script
 use Rattle.command.specs.declared.Command.{Command}
 use Rattle.command.specs.declared.Command.the-variants.{Add, Redeclare, TakeBack, Infer, Schemes, Nothing}
 

@@ -2,7 +2,7 @@
 ghost use mathlib.Core.Path.{_≡_};
 ghost use mathlib.Core.List.{List};
 ghost use Prim.Native.Nat.{ℕ};
-ghost use Rattle.model.specs.Script.{begins, beforeBlank, redeclareOf, argument, afterBlank, commandOf};
+ghost use Rattle.conversation.specs.Script.{begins, beforeBlank, redeclareOf, argument, afterBlank, commandOf};
 ghost use Rattle.command.specs.Said.{said};
 use lines::find;
 use model::Field;

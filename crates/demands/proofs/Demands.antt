@@ -22,13 +22,13 @@ use Rattle.model.specs.Inference.{ruling, Slot, Shape, Refusal, GreatestTyping}
 use Rattle.model.specs.Report.{line, report}
 use Rattle.model.specs.Session.{Call, add, redeclare, take-back, infer, Outcome, returning, Infers, Answers, adds, redeclares, takes-back, Session}
 use Rattle.model.specs.Text.{linesOf, Prints, Returns, ReturnsUnder}
-use Rattle.model.specs.Script.{commandOf, Makes, Replies, Conversation, largest, Responds}
+use Rattle.conversation.specs.Script.{commandOf, Makes, Replies, Conversation, largest, Responds}
 use Rattle.model.specs.declared.Field.the-variants.{Value}
 use Rattle.model.specs.declared.Line.the-variants.{NoForm}
 use Rattle.model.proofs.Answers.{session-same}
 use Rattle.model.proofs.Files.{six-file}
 use Rattle.model.proofs.LongFiles.{opened-front}
-use Rattle.model.proofs.LongLines.{reply-front}
+use Rattle.conversation.proofs.Front.{reply-front}
 use Rattle.tokens.proofs.RoundTrip.{word-exactly}
 use Rattle.table.specs.Lists.{lists}
 use Rattle.table.specs.Called.{Called}

@@ -17,10 +17,10 @@ use Rattle.model.specs.Report.{line}
 use Rattle.model.specs.Session.{Call, add, redeclare, take-back, infer, Outcome, Answers, Session}
 use Rattle.model.specs.Session as Session
 use Rattle.model.specs.Text.{linesOf}
-use Rattle.model.specs.Script.{Command, commandOf, beforeBlank, afterBlank, argument, redeclareOf, Makes, answer, restarted, unknown, Replies, Dialogue, Conversation, largest, Responds}
-use Rattle.model.specs.Script as Script
+use Rattle.conversation.specs.Script.{Command, commandOf, beforeBlank, afterBlank, argument, redeclareOf, Makes, answer, restarted, unknown, Replies, Dialogue, Conversation, largest, Responds}
+use Rattle.conversation.specs.Script as Script
 use Rattle.model.proofs.Checks.{settled-refused, settled-accepted}
-use Rattle.model.proofs.Scripts.{not-made, not-schemes, conversation-same}
+use Rattle.conversation.proofs.Same.{not-made, not-schemes, conversation-same}
 use Rattle.tokens.proofs.RoundTrip.{number-of-decimal}
 use Rattle.starred.specs.Starred.{All}
 use Rattle.demands.specs.Traces.{callsOf}

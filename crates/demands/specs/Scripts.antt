@@ -14,7 +14,7 @@ use Rattle.model.specs.SchemeFile.{opened}
 use Rattle.model.specs.Report.{line}
 use Rattle.model.specs.Session.{Call, add, redeclare, take-back, infer, Outcome, Session}
 use Rattle.model.specs.Text.{linesOf}
-use Rattle.model.specs.Script.{schemes, no-command, commandOf, Makes, answer, unknown}
+use Rattle.conversation.specs.Script.{schemes, no-command, commandOf, Makes, answer, unknown}
 
 -- Lines that start no other table, in turn: the calls that they make, with what each returned, and all that is answered.
 pub data Transcript : List (List ℕ) → List (Call × Outcome) → List ℕ → Type 0 where

@@ -9,9 +9,10 @@ use Rattle.model.specs.Machine.{Machine, Change, added, redeclared, takenBack}
 use Rattle.model.specs.Report.{line}
 use Rattle.model.specs.Session.{Call, Outcome, returning, Answers}
 use Rattle.model.specs.Session as Session
-use Rattle.model.specs.Script.{fileIn, commandOf, Makes, answer, restarted, unknown, Replies}
-use Rattle.model.specs.Script as Script
-use Rattle.model.proofs.Numbers.{added-most, redeclared-most, taken-back-most, restarted-most}
+use Rattle.conversation.specs.Script.{fileIn, commandOf, Makes, answer, restarted, unknown, Replies}
+use Rattle.conversation.specs.Script as Script
+use Rattle.model.proofs.Numbers.{added-most, redeclared-most, taken-back-most}
+use Rattle.conversation.proofs.Numbers.{restarted-most}
 use Rattle.table.specs.Lists.{lists, change}
 use Rattle.table.specs.Called.{Called}
 use Rattle.table.specs.Called as Called

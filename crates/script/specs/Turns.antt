@@ -7,7 +7,7 @@ use lib.Dec.{leb}
 use lib.ListN.{length, take}
 use lib.Seq.{sets}
 use Rattle.model.specs.Machine.{Machine}
-use Rattle.model.specs.Script.{fileIn, Replies, Conversation, largest}
+use Rattle.conversation.specs.Script.{fileIn, Replies, Conversation, largest}
 use Rattle.table.specs.Lists.{lists}
 use Rattle.table.specs.Ready.{Ready}
 use Rattle.script.specs.declared.Turn.{Turn}

@@ -5,7 +5,7 @@ ghost use Prim.Native.Nat.{_+_, _≤_, min};
 ghost use lib.ListN.{length};
 ghost use Rattle.model.specs.Number.{decimal};
 ghost use Rattle.model.specs.Report.{line};
-ghost use Rattle.model.specs.Script.{unknown, largest, Responds};
+ghost use Rattle.conversation.specs.Script.{unknown, largest, Responds};
 ghost use Rattle.table.specs.Lists.{lists};
 ghost use Rattle.table.specs.Ready.{Ready};
 ghost use Rattle.report.specs.Writing.{Front};

@@ -4,7 +4,7 @@ use native.Mathlib.Omega.{arith}
 use mathlib.Core.Path.{refl}
 use lib.ListN.{length}
 use Rattle.model.specs.Lists.{bytes}
-use Rattle.model.specs.Script.{commandOf}
+use Rattle.conversation.specs.Script.{commandOf}
 use Rattle.command.specs.Said.{said}
 use borrow.Author.Needs.{needs}
 use Rattle.command.proofs.Reading.{begins-long, test-passed, test-failed, readings}

@@ -7,15 +7,15 @@ use mathlib.Core.Path.{_≡_}
 use lib.Dec.{eqb}
 use lib.ListN.{length, take, drop}
 use Rattle.scheme.specs.Six.{sixTable}
 use Rattle.model.specs.Lists.{same, lengthBefore, bytes}
 use Rattle.model.specs.Number.{numberOf, decimal}
 use Rattle.model.specs.Machine.{Machine, Change, freshMachine, settled}
 use Rattle.model.specs.SchemeFile.{opened}
 use Rattle.model.specs.Report.{line}
 use Rattle.model.specs.Session.{Call, Outcome, Answers}
-use Rattle.model.specs.Line.{linesOf}
+use Rattle.model.specs.Text.{linesOf, shown}
 use Rattle.model.specs.declared.Field.{Field}
 use Rattle.model.specs.declared.Field.the-variants.{Value, NoValue}
 
 -- What a line of a script asks for.
 pub data Command : Type 0 where
@@ -66,9 +66,6 @@ pub data Makes : Command → Call → Type 0 where
   infers : {buffer : List ℕ} → 6280 ≤ length buffer → Makes infer (Call.infer buffer)
 
 -- "An add, redeclare or take-back prints its number; an accepted infer prints the report, a refused one `NO,number,row`".
-abbrev pub shown : Outcome → List ℕ
-shown o = cond (eqb (o .number) 0) (take (o .size) (o .buffer)) (line (bytes "NO" ∷ decimal (o .number) ∷ decimal (o .row) ∷ []))
-
 abbrev pub answer : Call → Outcome → List ℕ
 answer (Call.add s) o = line (decimal (o .number) ∷ [])
 answer (Call.redeclare p code) o = line (decimal (o .number) ∷ [])

@@ -8,21 +8,22 @@ use lib.Seq.{take-append-seam}
 use borrow.Author.Tests.{ne-eqb}
 use Rattle.scheme.specs.Schemes.{Sound}
 use Rattle.scheme.proofs.Six.{six-sound}
 use Rattle.model.specs.Lists.{bytes}
 use Rattle.model.specs.Number.{decimal}
 use Rattle.model.specs.Machine.{Machine}
 use Rattle.model.specs.SchemeFile.{opened}
 use Rattle.model.specs.Inference.{ruling}
 use Rattle.model.specs.Report.{line, report}
 use Rattle.model.specs.Session.{Call, Outcome, Infers, short, refused, accepted, Answers, infers}
-use Rattle.model.specs.Script.{Command, commandOf, Makes, shown, answer, restarted, Replies, Dialogue, Conversation}
-use Rattle.model.specs.Script as Script
+use Rattle.model.specs.Text.{shown}
 use Rattle.model.proofs.Lawful.{sound-lawful}
 use Rattle.model.proofs.Keeps.{answers-keep}
 use Rattle.model.proofs.Checks.{settled-keeps}
 use Rattle.model.proofs.Opened.{opened-sound}
 use Rattle.model.proofs.Unique.{judged-same, judged-accepted, word-same, shapes-same, report-same}
 use Rattle.model.proofs.Answers.{answers-same}
+use Rattle.conversation.specs.Script.{Command, commandOf, Makes, answer, restarted, Replies, Dialogue, Conversation}
+use Rattle.conversation.specs.Script as Script
 
 -- What is printed of a refusal.
 shown-refused : (number row size : ℕ) (buffer : List ℕ) → ¬ (number ≡ 0) →
