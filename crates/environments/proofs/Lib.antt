@@ -1,0 +1,4 @@
+pub mod Close
+pub mod Contexts
+pub mod Turns
+pub mod Weights

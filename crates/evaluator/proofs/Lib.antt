@@ -1,0 +1,4 @@
+pub mod Advancing
+pub mod Looking
+pub mod Ending
+pub mod Running
