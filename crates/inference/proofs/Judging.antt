@@ -3,12 +3,12 @@ use Prim.Native.Nat.{ℕ, zero, suc, _≤_, _<_}
 use native.Mathlib.Omega.{arith}
 use mathlib.Core.Bool.{Bool, true, not}
 use mathlib.Core.List.{List, [], _∷_}
-use mathlib.Core.Path.{_≡_, refl, sym, ap, subst, subst₂}
+use mathlib.Core.Path.{_≡_, refl, sym, ap, subst, subst₂, _∙_}
 use lib.ListN.{length, take}
 use Rattle.model.specs.Machine.{Machine}
 use borrow.Author.Tests.{not-true}
 use Rattle.model.specs.Closed.{Closed}
-use Rattle.model.specs.Inference.{ruling, Shape, Cause, Refusal, FloorsMet, FloorMissed, not-closed, not-typable, below-floor, typed}
+use Rattle.model.specs.Inference.{ruling, Slot, Shape, Cause, Refusal, FloorsMet, FloorMissed, Judged, not-closed, not-typable, below-floor, typed}
 use Rattle.model.specs.Session.{refusing, Infers, short, refused, accepted}
 use Rattle.scheme.proofs.Schemes.{sound-short}
 use Rattle.schemes.specs.Schemes.{tableIn}
@@ -24,7 +24,9 @@ use Rattle.solver.specs.Runs.{Solves, Governed}
 use Rattle.solver.specs.declared.Answer.the-variants.{Placed}
 use Rattle.inference.specs.Outcome.{outcome}
 use Rattle.table.specs.Ready.{Ready}
+use Rattle.inference.specs.Judges.{Judges}
 use Rattle.inference.specs.declared.Inferred.{Inferred}
+use Rattle.inference.specs.declared.Verdict.{Verdict}
 
 -- Taking as many as were taken takes the same.
 take-taken : {A : Type 0} (n : ℕ) (l : List A) → take (length (take n l)) l ≡ take n l
@@ -64,32 +66,50 @@ cause-numbered (Cause.shapes none) z = omega arith
 cause-numbered (Cause.qualifiers some none) z = omega arith
 cause-numbered (Cause.bounds some) z = omega arith
 
+module _ {m : Machine} {r : Verdict} where
+  -- 10
+  pub judges-open : (closed : Bool) → Decides m closed → not closed ≡ true → r .number ≡ 10 → r .row ≡ 0 → Judges m r
+  judges-open closed decides e is at =
+      record {
+        judged = rw (is, at) (not-closed (decides .not-closed (not-true closed e)));
+        matches = λ z. let no : ⊥ = omega arith in absurd no;
+      }
+
+  -- 21 to 23
+  pub judges-untypable : {number row : ℕ} → Closed m → Refusal (ruling m) m number row → r .number ≡ number → r .row ≡ row → Judges m r
+  judges-untypable closed refusal is at =
+      record { judged = rw (is, at) (not-typable closed refusal); matches = λ z. absurd (cause-numbered (refusal .cause) (sym is ∙ z)) }
+
+  -- 24
+  pub judges-missed : {codes : Codes} {p : ℕ} → Closed m → Solves m codes Placed → FloorMissed (ruling m) m (codedWord codes) p → r ≡ record { number = 24; row = p; codes = codes } → Judges m r
+  judges-missed closed solves missed is =
+      rw is (record { judged = below-floor closed (solves .0) missed; matches = λ z. let no : ⊥ = omega arith in absurd no })
+
+  -- accepted
+  pub judges-accepted : {codes : Codes} → Closed m → Solves m codes Placed → FloorsMet (ruling m) m (codedWord codes) → r ≡ record { number = 0; row = 0; codes = codes } → Judges m r
+  judges-accepted closed solves met is = rw is (record { judged = typed closed (solves .0) met; matches = λ z. solves .1 })
+
 module _ (m : Machine) (buffer : List ℕ) (r : Inferred) where
   -- 11
   pub short-refused : length buffer < 6280 → (r .number ≡ 11) × (r .row ≡ 0) × (r .size ≡ 0) → Infers m buffer (outcome r buffer)
   short-refused h is = subst (Infers m buffer) (refuses-is r 11 0 buffer is) (short h)
 
-  module _ (h : 6280 ≤ length buffer) where
-    -- 10
-    pub open-refused : (closed : Bool) → Decides m closed → not closed ≡ true → (r .number ≡ 10) × (r .row ≡ 0) × (r .size ≡ 0) → Infers m buffer (outcome r buffer)
-    open-refused closed decides e is =
-        subst (Infers m buffer) (refuses-is r 10 0 buffer is) (refused {word = λ x. 0} {shape = λ x. Shape.int} h (not-closed (decides .not-closed (not-true closed e))) (λ z. omega arith))
+  module _ (h : 6280 ≤ length buffer) (v : Verdict) (judges : Judges m v) where
+    -- a refusal
+    pub judged-refused : ¬ (v .number ≡ 0) → (r .number ≡ v .number) × (r .row ≡ v .row) × (r .size ≡ 0) → Infers m buffer (outcome r buffer)
+    judged-refused some is = subst (Infers m buffer) (refuses-is r (v .number) (v .row) buffer is) (refused h (judges .judged) some)
 
-    module _ (closed : Closed m) where
-      -- 21 to 23
-      pub row-refused : (number row : ℕ) → Refusal (ruling m) m number row → (r .number ≡ number) × (r .row ≡ row) × (r .size ≡ 0) → Infers m buffer (outcome r buffer)
-      row-refused number row refusal is =
-          subst (Infers m buffer) (refuses-is r number row buffer is)
-          (refused {word = λ x. 0} {shape = λ x. Shape.int} h (not-typable closed refusal) (cause-numbered (refusal .cause)))
-
-      -- 24
-      pub floor-refused : (codes : Codes) (p : ℕ) → Solves m codes Placed → FloorMissed (ruling m) m (codedWord codes) p → (r .number ≡ 24) × (r .row ≡ p) × (r .size ≡ 0) → Infers m buffer (outcome r buffer)
-      floor-refused codes p solves missed is =
-          subst (Infers m buffer) (refuses-is r 24 p buffer is) (refused h (below-floor closed (solves .0) missed) (λ z. omega arith))
-
-      -- the report
-      pub report-written : (names : List (List ℕ)) (codes : Codes) (after : List ℕ) (params rows size : ℕ) → m .schemes .names ≡ names → Solves m codes Placed → FloorsMet (ruling m) m (codedWord codes) →
-          length (m .params) ≡ params → length (m .terms) ≡ rows → Written names codes params rows buffer after size → (r .number ≡ 0) × (r .row ≡ 0) × (r .size ≡ size) → Infers m buffer (outcome r after)
-      report-written names codes after params rows size same solves met e f written is =
-          let matches = subst₂ (Matches m codes) e f (solves .1) in
-          subst (Infers m buffer) (cc (is .0, is .1, is .2, written .buffer m same matches, written .size m same matches)) (accepted h (typed closed (solves .0) met))
+    -- the report
+    pub report-written : (names : List (List ℕ)) (after : List ℕ) (params rows size : ℕ) → v .number ≡ 0 → m .schemes .names ≡ names →
+        length (m .params) ≡ params → length (m .terms) ≡ rows → Written names (v .codes) params rows buffer after size → (r .number ≡ 0) × (r .row ≡ 0) × (r .size ≡ size) → Infers m buffer (outcome r after)
+    report-written names after params rows size none same e f written is =
+        let matches = subst₂ (Matches m (v .codes)) e f (judges .matches none) in
+        subst (Infers m buffer) (cc (is .0, is .1, is .2, written .buffer m same matches, written .size m same matches))
+        (accepted h (accepted-row none (judges .judged)))
+      where
+        -- the row of an accepted program is 0
+        accepted-row : {n k : ℕ} {word : Slot → ℕ} {shape : Slot → Shape} → n ≡ 0 → Judged (ruling m) m n k word shape → Judged (ruling m) m 0 0 word shape
+        accepted-row z (not-closed none) = let no : ⊥ = omega arith in absurd no
+        accepted-row z (not-typable closed refusal) = absurd (cause-numbered (refusal .cause) z)
+        accepted-row z (below-floor closed a missed) = let no : ⊥ = omega arith in absurd no
+        accepted-row z (typed closed a met) = typed closed a met

@@ -1,3 +1,4 @@
 pub mod Outcome
 pub mod Ran
 pub mod Printed
+pub mod Judges

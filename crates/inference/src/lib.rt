@@ -8,10 +8,14 @@ ghost use Rattle.table.specs.Lists.{lists};
 ghost use Rattle.report.specs.Written.{Written};
 ghost use Rattle.solver.specs.Runs.{Solves};
 ghost use Rattle.inference.specs.Outcome.{outcome};
+ghost use Rattle.inference.specs.Judges.{Judges};
 ghost use Rattle.table.specs.Ready.{Ready};
 ghost use Rattle.inference.specs.Printed.{Printed};
 use floors::Missed;
+use model::PARAMS;
 use model::Program;
+use model::TERMS;
+use model::VARIABLES;
 use report::Codes;
 use solver::Answer;
 use solver::Solved;
@@ -25,6 +29,13 @@ pub struct Inferred {
     pub size: usize,
 }
 
+// What is judged of a program: 0, or a refusal's number with its row, or for 24 its parameter; and the codes of its words and shapes.
+pub struct Verdict {
+    pub number: u8,
+    pub row: usize,
+    pub codes: Codes,
+}
+
 // The length of the longest report.
 pub const REPORT: usize = 6280;
 
@@ -36,10 +47,16 @@ pub fn infer(table: Table, buffer: &mut [u8]) -> Inferred
     if buffer.len() < REPORT {
         return refusal(11, 0);
     }
-    if !closed::is_closed(table) {
-        return refusal(10, 0);
+    let verdict = judge(table);
+    if verdict.number != 0 {
+        return refusal(verdict.number, verdict.row);
     }
-    place(table, buffer)
+    let size = write(table, buffer, verdict.codes);
+    Inferred {
+        number: 0,
+        row: 0,
+        size,
+    }
 }
 
 // Infers, and writes what is printed of that at the front of the buffer: the report, or the line of the refusal. Returns its length.
@@ -64,38 +81,57 @@ fn refusal(number: u8, row: usize) -> Inferred
     }
 }
 
-// The report of a closed program; or the least row that leaves no typing; or the lowest parameter that misses its floor.
-fn place(table: Table, buffer: &mut [u8]) -> Inferred
-    requires { ⌜ Ready table × Closed (lists table) × (6280 ≤ length (now buffer)) ⌝ }
-    ensures { λ r. ⌜ Infers (lists table) (now (buffer .entry)) (outcome r (now (buffer .exit))) ⌝ }
+// What is judged of the program that stands in the table, with the codes of its words and shapes where it is accepted.
+pub fn judge(table: Table) -> Verdict
+    requires { ⌜ Ready table ⌝ }
+    ensures { λ r. ⌜ Judges (lists table) r ⌝ }
 {
+    if !closed::is_closed(table) {
+        return Verdict {
+            number: 10,
+            row: 0,
+            codes: no_codes(),
+        };
+    }
     let solved = solve(table);
     let answer = solved.answer;
     let codes = solved.codes;
     match answer {
-        Answer::Placed => report_above_floors(table, buffer, codes),
-        Answer::Refused(number, row) => refusal(number, row),
+        Answer::Placed => above_floors(table, codes),
+        Answer::Refused(number, row) => Verdict { number, row, codes },
     }
 }
 
-// The report of a program that has typings, where its words meet every floor; or the lowest parameter that misses its own.
-fn report_above_floors(table: Table, buffer: &mut [u8], codes: Codes) -> Inferred
-    requires { ⌜ Ready table × Closed (lists table) × (6280 ≤ length (now buffer)) × Solves (lists table) codes Answer.Placed ⌝ }
-    ensures { λ r. ⌜ Infers (lists table) (now (buffer .entry)) (outcome r (now (buffer .exit))) ⌝ }
+// The codes where there are none: no one looks at them.
+fn no_codes() -> Codes {
+    Codes {
+        variables: [0; VARIABLES],
+        paramwords: [0; PARAMS],
+        paramshapes: [0; PARAMS],
+        rowwords: [0; TERMS],
+        rowshapes: [0; TERMS],
+    }
+}
+
+// What is judged of a closed program that has typings: it is accepted, or its lowest parameter that misses its floor is told.
+fn above_floors(table: Table, codes: Codes) -> Verdict
+    requires { ⌜ Ready table × Closed (lists table) × Solves (lists table) codes Answer.Placed ⌝ }
+    ensures { λ r. ⌜ Judges (lists table) r ⌝ }
 {
     let rule = table.schemes.rule;
     let params = table.params;
     let words = codes.paramwords;
     match floors::lowest_missed(&rule, params, table.parameters(), &words) {
-        Missed::At(p) => refusal(24, p),
-        Missed::Nowhere => {
-            let size = write(table, buffer, codes);
-            Inferred {
-                number: 0,
-                row: 0,
-                size,
-            }
-        }
+        Missed::At(p) => Verdict {
+            number: 24,
+            row: p,
+            codes,
+        },
+        Missed::Nowhere => Verdict {
+            number: 0,
+            row: 0,
+            codes,
+        },
     }
 }
 

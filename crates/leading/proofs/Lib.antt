@@ -1,0 +1,4 @@
+pub mod Lams
+pub mod Numbers
+pub mod Going
+pub mod Underway
