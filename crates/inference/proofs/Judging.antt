@@ -66,6 +66,13 @@ cause-numbered (Cause.shapes none) z = omega arith
 cause-numbered (Cause.qualifiers some none) z = omega arith
 cause-numbered (Cause.bounds some) z = omega arith
 
+-- The row of an accepted program is 0.
+pub accepted-row : {m : Machine} {n k : ℕ} {word : Slot → ℕ} {shape : Slot → Shape} → n ≡ 0 → Judged (ruling m) m n k word shape → Judged (ruling m) m 0 0 word shape
+accepted-row z (not-closed none) = let no : ⊥ = omega arith in absurd no
+accepted-row z (not-typable closed refusal) = absurd (cause-numbered (refusal .cause) z)
+accepted-row z (below-floor closed a missed) = let no : ⊥ = omega arith in absurd no
+accepted-row z (typed closed a met) = typed closed a met
+
 module _ {m : Machine} {r : Verdict} where
   -- 10
   pub judges-open : (closed : Bool) → Decides m closed → not closed ≡ true → r .number ≡ 10 → r .row ≡ 0 → Judges m r
@@ -106,10 +113,3 @@ module _ (m : Machine) (buffer : List ℕ) (r : Inferred) where
         let matches = subst₂ (Matches m (v .codes)) e f (judges .matches none) in
         subst (Infers m buffer) (cc (is .0, is .1, is .2, written .buffer m same matches, written .size m same matches))
         (accepted h (accepted-row none (judges .judged)))
-      where
-        -- the row of an accepted program is 0
-        accepted-row : {n k : ℕ} {word : Slot → ℕ} {shape : Slot → Shape} → n ≡ 0 → Judged (ruling m) m n k word shape → Judged (ruling m) m 0 0 word shape
-        accepted-row z (not-closed none) = let no : ⊥ = omega arith in absurd no
-        accepted-row z (not-typable closed refusal) = absurd (cause-numbered (refusal .cause) z)
-        accepted-row z (below-floor closed a missed) = let no : ⊥ = omega arith in absurd no
-        accepted-row z (typed closed a met) = typed closed a met
