@@ -45,6 +45,9 @@ pub count-first : (s into : List ℕ) → length into ≡ 66 → Counted s into 
 unfolding argumentsOf
 count-first s into long = record { room = long; few = omega arith; within = omega arith; left = refl }
 
+pub count-fits : (s into : List ℕ) (count from : ℕ) → Counted s into count from → count ≤ length into
+count-fits s into count from counted = omega (arith, counted .few, counted .room)
+
 pub count-full : (s into : List ℕ) (count from : ℕ) → Counted s into count from → 66 ≤ count → take count into ≡ argumentsOf (frontWords 66 s)
 unfolding frontWords
 count-full s into count from counted h =
@@ -83,6 +86,9 @@ module _ (s into : List ℕ) (count from to : ℕ) (counted : Counted s into cou
       last-number end =
           let none : contains 32 (drop from s) ≡ false = contains-before 32 (drop from s) ∙ le-ltb (lengthBefore 32 (drop from s)) (length (drop from s)) (omega (arith, length-drop from s)) in
           sym (one-more ∙ rw none (with-no-more (take (count + 1) (set into count n))))
+
+      pub last-fits : count + 1 ≤ length (set into count n)
+      last-fits = simp length-set (omega (arith, counted .room))
 
       pub next-number : ¬ (to ≡ length s) → Counted s (set into count n) (count + 1) (to + 1)
       next-number inner =

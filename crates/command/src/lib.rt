@@ -91,7 +91,7 @@ fn both(p: Field, code: Field) -> Command
 
 // Reads the budget of a run and then its numbers from what stands after its word. Returns how many they are together, 0 where a word is no number.
 pub fn arguments(s: &[u8], into: &mut [u32; ARGUMENTS]) -> usize
-    ensures { λ r. ⌜ (take r (now (into .exit)) ≡ argumentsOf (frontWords 66 (now (s .entry)))) × (r ≤ 66) ⌝ }
+    ensures { λ r. ⌜ (take r (now (into .exit)) ≡ argumentsOf (frontWords 66 (now (s .entry)))) × (r ≤ length (now (into .exit))) ⌝ }
 {
     // No number stands there yet.
     *into = [0; ARGUMENTS];

@@ -3,7 +3,7 @@ use Prim.Native.Nat.{_-_, _<_}
 use native.Mathlib.Omega.{arith}
 use mathlib.Core.Path.{refl}
 use borrow.Author.Needs.{needs}
-use Rattle.command.proofs.Numbers.{Counted, count-first, count-full, word-within, next-fits, no-number, last-number, next-number}
+use Rattle.command.proofs.Numbers.{Counted, count-first, count-fits, count-full, word-within, next-fits, no-number, last-number, last-fits, next-number}
 use Rattle.command.proofs.arguments.Statement.{statement}
 use Rattle.command.proofs.arguments.Tie as tie
 
@@ -50,7 +50,7 @@ add-count : tie.Need-add-count Inv-loop μ-loop
 add-count c = search needs
 
 returns-2 : tie.Need-returns-2 Inv-loop μ-loop
-returns-2 c = let more : c .before .before .before .before .before .before .before .before .loop .count < 66 = omega arith in (search (last-number, needs), omega arith)
+returns-2 c = let more : c .before .before .before .before .before .before .before .before .loop .count < 66 = omega arith in (search (last-number, needs), search (last-fits, needs))
 
 add-from : tie.Need-add-from Inv-loop μ-loop
 add-from c = search (next-fits, needs)
@@ -62,7 +62,7 @@ loop-again : tie.Need-loop-again Inv-loop μ-loop
 loop-again c = let more : c .before .before .before .before .before .before .before .before .loop .count < 66 = omega arith in search (next-number, needs)
 
 returns-3 : tie.Need-returns-3 Inv-loop μ-loop
-returns-3 c = (search (count-full, needs), search needs)
+returns-3 c = (search (count-full, needs), search (count-fits, needs))
 
 pub arguments-spec : {M : Type 1} → statement M
 arguments-spec =
