@@ -9,15 +9,15 @@ use lib.ListN.{length, take, drop, length-take, length-drop, drop-of-length-le}
 use lib.Seq.{take-all}
 use Rattle.model.specs.Lists.{same, lengthBefore, bytes}
 use Rattle.model.specs.Number.{numberOf}
-use Rattle.model.specs.Script.{begins, beforeBlank, afterBlank, argument, redeclareOf, fileIn, commandOf}
-use Rattle.model.specs.Script as Script
+use Rattle.conversation.specs.Script.{begins, beforeBlank, afterBlank, argument, redeclareOf, fileIn, runOf}
+use Rattle.conversation.specs.Script as Script
 use Rattle.model.specs.declared.Field.{Field}
 use Rattle.model.specs.declared.Field.the-variants.{Value, NoValue}
 use Rattle.model.proofs.Lists.{same-length, before-most}
-use Rattle.model.proofs.LongLines.{no-code}
+use Rattle.conversation.proofs.Front.{no-code}
 use Rattle.command.specs.Said.{said}
 use Rattle.command.specs.declared.Command.{Command}
-use Rattle.command.specs.declared.Command.the-variants.{Add, Redeclare, Schemes, Nothing}
+use Rattle.command.specs.declared.Command.the-variants.{Redeclare, Nothing}
 
 -- Fewer bytes than the word has do not begin with it.
 pub begins-short : (word s : List ℕ) → length s < length word → false ≡ begins word s
@@ -81,45 +81,9 @@ pub after-ten : (s : List ℕ) (c : Command) → ((t : List ℕ) → said c t �
     said c s ≡ redeclareOf (argument (beforeBlank (drop 10 s))) (argument (afterBlank (drop 10 s)))
 after-ten s c says = says s ∙ rw (rest-is 10 s)
 
--- The two numbers of a redeclare make a redeclare, or no command.
-not-redeclare : (c : Script.Command) → ((p code : ℕ) → ¬ (c ≡ Script.redeclare p code)) → ¬ (c ≡ Script.no-command) → (p code : Field) → c ≡ redeclareOf p code → ⊥
-not-redeclare c some other (Value p) (Value code) e = some p code e
-not-redeclare c some other (Value p) NoValue e = other e
-not-redeclare c some other NoValue code e = other e
-
-module _ (s : List ℕ) where
-  -- What a line is by the words that it begins with, and by the two that it may be.
-  tried : Bool → Bool → Bool → Bool → Bool → Script.Command
-  tried adds redeclares takes-back infers restarts =
-      cond adds (Script.add (drop 4 s))
-      (cond redeclares (redeclareOf (argument (beforeBlank (drop 10 s))) (argument (afterBlank (drop 10 s))))
-      (cond takes-back Script.take-back (cond infers Script.infer (cond restarts (Script.schemes (fileIn (drop 8 s))) Script.no-command))))
-
-  -- An add has its word and its blank.
-  pub add-long : said Add s ≡ commandOf s → 4 ≤ length s
-  unfolding said commandOf tried
-  add-long e = begins-long (bytes "add ") s (begins (bytes "add ") s) refl (by (begins (bytes "add ") s) (begins (bytes "redeclare ") s) (same s (bytes "take-back")) (same s (bytes "infer")) (begins (bytes "schemes ") s) e)
-    where
-      by : (first second third fourth fifth : Bool) → Script.add (drop 4 s) ≡ tried first second third fourth fifth → first ≡ true
-      by true second third fourth fifth e = refl
-      by false true third fourth fifth e = absurd (not-redeclare (Script.add (drop 4 s)) (λ p code e. let z : _≡_ {A = ℕ} 0 1 = cc in omega arith) (λ e. let z : _≡_ {A = ℕ} 0 1 = cc in omega arith) (argument (beforeBlank (drop 10 s))) (argument (afterBlank (drop 10 s))) e)
-      by false false true fourth fifth e = cc
-      by false false false true fifth e = cc
-      by false false false false true e = cc
-      by false false false false false e = cc
-
-  -- So has a scheme file.
-  pub schemes-long : said Schemes s ≡ commandOf s → 8 ≤ length s
-  unfolding said commandOf tried
-  schemes-long e = begins-long (bytes "schemes ") s (begins (bytes "schemes ") s) refl (by (begins (bytes "add ") s) (begins (bytes "redeclare ") s) (same s (bytes "take-back")) (same s (bytes "infer")) (begins (bytes "schemes ") s) e)
-    where
-      by : (first second third fourth fifth : Bool) → Script.schemes (fileIn (drop 8 s)) ≡ tried first second third fourth fifth → fifth ≡ true
-      by first second third fourth true e = refl
-      by true second third fourth false e = cc
-      by false true third fourth false e = absurd (not-redeclare (Script.schemes (fileIn (drop 8 s))) (λ p code e. let z : _≡_ {A = ℕ} 0 1 = cc in omega arith) (λ e. let z : _≡_ {A = ℕ} 0 1 = cc in omega arith) (argument (beforeBlank (drop 10 s))) (argument (afterBlank (drop 10 s))) e)
-      by false false true fourth false e = cc
-      by false false false true false e = cc
-      by false false false false false e = cc
+-- What a line is that is none of the first four commands.
+abbrev pub later-command : List ℕ → Script.Command
+later-command s = cond (begins (bytes "schemes ") s) (Script.schemes (fileIn (drop 8 s))) (cond (begins (bytes "run ") s) (runOf (drop 4 s)) Script.no-command)
 
 -- A test came out as r.
 module _ (test r : Bool) (a b c : Script.Command) (e : r ≡ test) where

@@ -1,27 +1,35 @@
 // Reads a line of a script: which command it is, with the numbers that stand in it.
 ghost use mathlib.Core.Path.{_≡_};
 ghost use mathlib.Core.List.{List};
-ghost use Prim.Native.Nat.{ℕ};
-ghost use Rattle.model.specs.Script.{begins, beforeBlank, redeclareOf, argument, afterBlank, commandOf};
-ghost use Rattle.command.specs.Said.{said};
+ghost use Prim.Native.Nat.{ℕ, _≤_};
+ghost use lib.ListN.{length, take};
+ghost use Rattle.conversation.specs.Script.{begins, beforeBlank, redeclareOf, argument, afterBlank, frontWords, argumentsOf, commandOf};
+ghost use Rattle.command.specs.Said.{said, wordLength};
 use lines::find;
 use model::Field;
 use tokens::numbers::number_in;
 use tokens::words::same;
 
-// A command; the line of an add starts after its first four bytes, "add ", and the lines of a scheme file after their eight, "schemes ".
+// How many numbers of a run are looked at. No job has more than 64 leading LAMs, so that this many are too many for each.
+const NUMBERS: usize = 65;
+
+// The budget of a run and its numbers.
+pub const ARGUMENTS: usize = NUMBERS + 1;
+
+// A command. What an add, a scheme file and a run are given starts after the command's word and its blank: "add ", "schemes ", "run ".
 pub enum Command {
     Add,
     Redeclare(u32, u32),
     TakeBack,
     Infer,
     Schemes,
+    Run,
     Nothing,
 }
 
-// The command that a line of any bytes is.
+// The command that a line of any bytes is. A run without its numbers is none: `arguments` tells.
 pub fn read(s: &[u8]) -> Command
-    ensures { λ r. ⌜ said r (now (s .entry)) ≡ commandOf (now (s .entry)) ⌝ }
+    ensures { λ r. ⌜ (said r (now (s .entry)) ≡ commandOf (now (s .entry))) × (wordLength r ≤ length (now (s .entry))) ⌝ }
 {
     if begins(s, b"add ") {
         return Command::Add;
@@ -37,6 +45,9 @@ pub fn read(s: &[u8]) -> Command
     }
     if begins(s, b"schemes ") {
         return Command::Schemes;
+    }
+    if begins(s, b"run ") {
+        return Command::Run;
     }
     Command::Nothing
 }
@@ -54,20 +65,20 @@ fn begins(s: &[u8], word: &[u8]) -> bool
 
 // A parameter's number and a code, parted by one blank.
 fn redeclare_in(s: &[u8]) -> Command
-    ensures { λ r. ⌜ ((t : List ℕ) → said r t ≡ redeclareOf (argument (beforeBlank (now (s .entry)))) (argument (afterBlank (now (s .entry))))) ⌝ }
+    ensures { λ r. ⌜ ((t : List ℕ) → said r t ≡ redeclareOf (argument (beforeBlank (now (s .entry)))) (argument (afterBlank (now (s .entry))))) × (wordLength r ≡ 0) ⌝ }
 {
     let at = find(s, 0, b' ');
     if at == s.len() {
         return Command::Nothing;
     }
     let next = at + 1;
-    let p = number_in(&s[..at], 4294967295);
-    let code = number_in(&s[next..], 4294967295);
+    let p = argument_in(&s[..at]);
+    let code = argument_in(&s[next..]);
     both(p, code)
 }
 
 fn both(p: Field, code: Field) -> Command
-    ensures { λ r. ⌜ ((t : List ℕ) → said r t ≡ redeclareOf p code) ⌝ }
+    ensures { λ r. ⌜ ((t : List ℕ) → said r t ≡ redeclareOf p code) × (wordLength r ≡ 0) ⌝ }
 {
     match p {
         Field::Value(p) => match code {
@@ -76,4 +87,36 @@ fn both(p: Field, code: Field) -> Command
         },
         Field::NoValue => Command::Nothing,
     }
+}
+
+// Reads the budget of a run and then its numbers from what stands after its word. Returns how many they are together, 0 where a word is no number.
+pub fn arguments(s: &[u8], into: &mut [u32; ARGUMENTS]) -> usize
+    ensures { λ r. ⌜ (take r (now (into .exit)) ≡ argumentsOf (frontWords 66 (now (s .entry)))) × (r ≤ length (now (into .exit))) ⌝ }
+{
+    // No number stands there yet.
+    *into = [0; ARGUMENTS];
+    let mut count: usize = 0;
+    let mut from: usize = 0;
+    while count < ARGUMENTS {
+        let to = find(s, from, b' ');
+        match argument_in(&s[from..to]) {
+            Field::NoValue => return 0,
+            Field::Value(number) => {
+                into[count] = number;
+                count += 1;
+                if to == s.len() {
+                    return count;
+                }
+                from = to + 1;
+            }
+        }
+    }
+    count
+}
+
+// A number that a command is given.
+fn argument_in(s: &[u8]) -> Field
+    ensures { λ r. ⌜ r ≡ argument (now (s .entry)) ⌝ }
+{
+    number_in(s, 4294967295)
 }

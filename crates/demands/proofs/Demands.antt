@@ -22,13 +22,13 @@ use Rattle.model.specs.Inference.{ruling, Slot, Shape, Refusal, GreatestTyping}
 use Rattle.model.specs.Report.{line, report}
 use Rattle.model.specs.Session.{Call, add, redeclare, take-back, infer, Outcome, returning, Infers, Answers, adds, redeclares, takes-back, Session}
 use Rattle.model.specs.Text.{linesOf, Prints, Returns, ReturnsUnder}
-use Rattle.model.specs.Script.{commandOf, Makes, Replies, Conversation, largest, Responds}
+use Rattle.conversation.specs.Script.{commandOf, Makes, Replies, Conversation, largest, Responds}
 use Rattle.model.specs.declared.Field.the-variants.{Value}
 use Rattle.model.specs.declared.Line.the-variants.{NoForm}
 use Rattle.model.proofs.Answers.{session-same}
 use Rattle.model.proofs.Files.{six-file}
 use Rattle.model.proofs.LongFiles.{opened-front}
-use Rattle.model.proofs.LongLines.{reply-front}
+use Rattle.conversation.proofs.Front.{reply-front}
 use Rattle.tokens.proofs.RoundTrip.{word-exactly}
 use Rattle.table.specs.Lists.{lists}
 use Rattle.table.specs.Called.{Called}
@@ -224,7 +224,7 @@ pub returned-under-six : {text buffer b : List ℕ} {n : ℕ} → ReturnsUnder s
 returned-under-six = six-under
 
 -- The session. What the contract of `placement_session` says of a script: its calls are lists of demand 3, one for each table that it
--- starts, and all that is written is the answers. Every slice is shorter than the largest number.
+-- starts, each dry run is one of the table that stands, and all that is written is the answers. Every slice is shorter than the largest number.
 pub script-is-sessions : {script output after : List ℕ} {n : ℕ} → length output < largest → Responds script output n after → InSessions script output n after
 script-is-sessions = in-sessions
 
@@ -236,8 +236,8 @@ script-is-a-session = one-session
 pub session-determined : {script output after after′ : List ℕ} {n n′ : ℕ} → Responds script output n after → Responds script output n′ after′ → (n ≡ n′) × (after ≡ after′)
 session-determined = responds-same
 
--- A line's first 121 bytes decide its answer; the program `session` keeps no more of a line.
-pub session-front : {m after : Machine} {s w : List ℕ} → Sound (m .schemes) → Replies m (take 121 s) w after → Replies m s w after
+-- A line's first 730 bytes decide its answer; the program `session` keeps no more of a line.
+pub session-front : {m after : Machine} {s w : List ℕ} → Replies m (take 730 s) w after → Replies m s w after
 session-front = reply-front
 
 -- Every list of calls is a script. The line for a call makes that call, and the script of a list has these lines.

@@ -17,8 +17,8 @@ use Rattle.model.specs.Machine.{Machine, Change, freshMachine}
 use Rattle.model.specs.SchemeFile.{isCapital, isName, isBit, isBits, isSchemeLine, tableOf, namesDiffer, wellWritten, schemeRefusal, openedWith, opened}
 use Rattle.model.specs.Report.{line}
 use Rattle.model.specs.Session.{Call, Outcome, Session}
-use Rattle.model.specs.Script.{fileIn, commandOf, restarted, Replies, Dialogue, Conversation}
-use Rattle.model.specs.Script as Script
+use Rattle.conversation.specs.Script.{fileIn, commandOf, restarted, Replies, Dialogue, Conversation}
+use Rattle.conversation.specs.Script as Script
 use Rattle.model.proofs.Lists.{same-bytes}
 use Rattle.model.proofs.Checks.{passed, settled-accepted}
 use Rattle.model.proofs.Opened.{line-name, line-bits}

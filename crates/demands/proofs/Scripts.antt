@@ -17,25 +17,36 @@ use Rattle.model.specs.Report.{line}
 use Rattle.model.specs.Session.{Call, add, redeclare, take-back, infer, Outcome, Answers, Session}
 use Rattle.model.specs.Session as Session
 use Rattle.model.specs.Text.{linesOf}
-use Rattle.model.specs.Script.{Command, commandOf, beforeBlank, afterBlank, argument, redeclareOf, Makes, answer, restarted, unknown, Replies, Dialogue, Conversation, largest, Responds}
-use Rattle.model.specs.Script as Script
+use Rattle.conversation.specs.Script.{Command, commandOf, beforeBlank, afterBlank, argument, redeclareOf, Makes, answer, restarted, ranLine, unknown, Replies, Dialogue, Conversation, largest, Responds}
+use Rattle.conversation.specs.Script as Script
+use Rattle.dryrun.specs.Run.{DryRuns}
+use Rattle.dryrun.specs.Run as Run
 use Rattle.model.proofs.Checks.{settled-refused, settled-accepted}
-use Rattle.model.proofs.Scripts.{not-made, not-schemes, conversation-same}
+use Rattle.conversation.proofs.Same.{not-made, not-schemes, not-run, conversation-same}
 use Rattle.tokens.proofs.RoundTrip.{number-of-decimal}
 use Rattle.starred.specs.Starred.{All}
 use Rattle.demands.specs.Traces.{callsOf}
 use Rattle.demands.specs.InTurn.{InTurn}
 use Rattle.demands.specs.Scripts.{Transcript, OneList, ListsInTurn, HandsBack, InSessions, OneSession, StaysOn, commandFor, Spelled, scriptOf, answersOf, Alike, same-call, both-infer}
+use Rattle.demands.proofs.Standing.{answers-described}
 use Rattle.demands.proofs.Without.{first-other, rest-without, without-both, before-all, decimal-without}
 
 -- A line in front of a list of calls.
 module _ {m after : Machine} {s : List ℕ} {rest : List (List ℕ)} {answers : List ℕ} where
   call-first : {call : Call} {o : Outcome} → Makes (commandOf s) call → Answers m call o after → OneList after rest answers → OneList m (s ∷ rest) (answer call o ++ answers)
-  call-first makes a l = record { trace = _ ∷ l .trace; session = Session.next a (l .session); transcript = Transcript.calls makes (l .transcript) }
+  call-first makes a l =
+      record {
+        trace = _ ∷ l .trace;
+        session = Session.next a (l .session);
+        transcript = Transcript.calls makes (subst (λ (m : Machine). Transcript m rest (l .trace) answers) (answers-described a) (l .transcript));
+      }
 
 module _ {m : Machine} {s : List ℕ} {rest : List (List ℕ)} {answers : List ℕ} (l : OneList m rest answers) where
   refused-first : {file : List ℕ} → commandOf s ≡ Script.schemes file → ¬ (opened file .number ≡ 0) → OneList m (s ∷ rest) (line (decimal (opened file .number) ∷ []) ++ answers)
   refused-first e z = record { trace = l .trace; session = l .session; transcript = Transcript.refuses e z (l .transcript) }
+
+  run-first : {budget : ℕ} {numbers : List ℕ} {o : Run.Outcome} → commandOf s ≡ Script.run budget numbers → DryRuns m numbers budget o → OneList m (s ∷ rest) (ranLine m o ++ answers)
+  run-first e d = record { trace = l .trace; session = l .session; transcript = Transcript.runs e d (l .transcript) }
 
   unknown-first : commandOf s ≡ Script.no-command → OneList m (s ∷ rest) (unknown ++ answers)
   unknown-first e = record { trace = l .trace; session = l .session; transcript = Transcript.passes e (l .transcript) }
@@ -75,6 +86,7 @@ dialogue-lists : {m : Machine} {lines : List (List ℕ)} {answers : List ℕ} �
 dialogue-lists Dialogue.end = ListsInTurn.last no-line
 dialogue-lists (Dialogue.next {reply = reply} (Replies.calls makes a) d) = in-front reply (λ rest answers l. call-first makes a l) (dialogue-lists d)
 dialogue-lists (Dialogue.next (Replies.restarts {file} e) d) = restart-lists e (ℕ-discrete (opened file .number) 0) (dialogue-lists d)
+dialogue-lists (Dialogue.next {reply = reply} (Replies.runs e r) d) = in-front reply (λ rest answers l. run-first l e r) (dialogue-lists d)
 dialogue-lists (Dialogue.next (Replies.passes e) d) = in-front unknown (λ rest answers l. unknown-first l e) (dialogue-lists d)
 
 -- Lines that start no other table are one list.
@@ -85,6 +97,7 @@ dialogue-list {m} (All._∷ᴬ_ stays more) (Dialogue.next {s} {rest} {answers} 
     let is = restart-refused m file (stays file e) in
     subst (λ (c : Change). OneList m (s ∷ rest) (line (decimal (c .number) ∷ []) ++ answers)) (sym is)
     (refused-first (subst (λ (c : Change). OneList (c .machine) rest answers) is (dialogue-list more d)) e (stays file e))
+dialogue-list (All._∷ᴬ_ stays more) (Dialogue.next (Replies.runs e r) d) = run-first (dialogue-list more d) e r
 dialogue-list (All._∷ᴬ_ stays more) (Dialogue.next (Replies.passes e) d) = unknown-first (dialogue-list more d) e
 
 module _ {script output : List ℕ} where
@@ -152,11 +165,12 @@ makes-alike Makes.redeclares Makes.redeclares = same-call
 makes-alike Makes.takes-back Makes.takes-back = same-call
 makes-alike (Makes.infers long) (Makes.infers long′) = both-infer long long′
 
-lines-alike : {calls : List Call} {trace : List (Call × Outcome)} {answers : List ℕ} →
-    All Spelled calls → Transcript (map commandFor calls) trace answers → InTurn Alike calls (callsOf trace)
+lines-alike : {m : Machine} {calls : List Call} {trace : List (Call × Outcome)} {answers : List ℕ} →
+    All Spelled calls → Transcript m (map commandFor calls) trace answers → InTurn Alike calls (callsOf trace)
 lines-alike All.[]ᴬ Transcript.end = InTurn.none
 lines-alike (All._∷ᴬ_ {x = call} spelled more) (Transcript.calls makes rest) = InTurn.next (makes-alike (spelled-makes call spelled) makes) (lines-alike more rest)
 lines-alike (All._∷ᴬ_ {x = call} spelled more) (Transcript.refuses e z rest) = absurd (not-schemes (spelled-makes call spelled) e)
+lines-alike (All._∷ᴬ_ {x = call} spelled more) (Transcript.runs e r rest) = absurd (not-run (spelled-makes call spelled) e)
 lines-alike (All._∷ᴬ_ {x = call} spelled more) (Transcript.passes e rest) = absurd (not-made (spelled-makes call spelled) e)
 
 -- A call's line starts no other table.

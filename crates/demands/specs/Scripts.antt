@@ -1,5 +1,5 @@
 -- What a script of commands comes to, and the script of a list of calls.
--- docs/DECISIONS.md, "The session" and "A scheme table of the owner's"; document 01 has the calls and no text of them.
+-- docs/DECISIONS.md, "The session", "A scheme table of the owner's" and "Dry run of an accepted job"; document 01 has the calls and no text of them.
 use Prim.Native.Nat.{ℕ, _≤_, _<_}
 use mathlib.Core.Bool.{false, cond}
 use mathlib.Core.List.{List, [], _∷_, _++_, map}
@@ -14,23 +14,29 @@ use Rattle.model.specs.SchemeFile.{opened}
 use Rattle.model.specs.Report.{line}
 use Rattle.model.specs.Session.{Call, add, redeclare, take-back, infer, Outcome, Session}
 use Rattle.model.specs.Text.{linesOf}
-use Rattle.model.specs.Script.{schemes, no-command, commandOf, Makes, answer, unknown}
+use Rattle.dryrun.specs.Run.{DryRuns}
+use Rattle.dryrun.specs.Run as Run
+use Rattle.conversation.specs.Script.{schemes, run, no-command, commandOf, Makes, answer, ranLine, unknown}
+use Rattle.demands.specs.Standing.{standing}
 
--- Lines that start no other table, in turn: the calls that they make, with what each returned, and all that is answered.
-pub data Transcript : List (List ℕ) → List (Call × Outcome) → List ℕ → Type 0 where
-  end : Transcript [] [] []
-  calls : {s : List ℕ} {rest : List (List ℕ)} {call : Call} {o : Outcome} {trace : List (Call × Outcome)} {answers : List ℕ} →
-      Makes (commandOf s) call → Transcript rest trace answers → Transcript (s ∷ rest) ((call, o) ∷ trace) (answer call o ++ answers)
-  refuses : {s file : List ℕ} {rest : List (List ℕ)} {trace : List (Call × Outcome)} {answers : List ℕ} → commandOf s ≡ schemes file → ¬ (opened file .number ≡ 0) →
-      Transcript rest trace answers → Transcript (s ∷ rest) trace (line (decimal (opened file .number) ∷ []) ++ answers)
-  passes : {s : List ℕ} {rest : List (List ℕ)} {trace : List (Call × Outcome)} {answers : List ℕ} →
-      commandOf s ≡ no-command → Transcript rest trace answers → Transcript (s ∷ rest) trace (unknown ++ answers)
+-- Lines that start no other table, in turn from a machine on: the calls that they make, with what each returned, and all that is answered.
+pub data Transcript : Machine → List (List ℕ) → List (Call × Outcome) → List ℕ → Type 0 where
+  end : {m : Machine} → Transcript m [] [] []
+  calls : {m : Machine} {s : List ℕ} {rest : List (List ℕ)} {call : Call} {o : Outcome} {trace : List (Call × Outcome)} {answers : List ℕ} →
+      Makes (commandOf s) call → Transcript (standing m ((call, o) ∷ [])) rest trace answers → Transcript m (s ∷ rest) ((call, o) ∷ trace) (answer call o ++ answers)
+  refuses : {m : Machine} {s file : List ℕ} {rest : List (List ℕ)} {trace : List (Call × Outcome)} {answers : List ℕ} → commandOf s ≡ schemes file → ¬ (opened file .number ≡ 0) →
+      Transcript m rest trace answers → Transcript m (s ∷ rest) trace (line (decimal (opened file .number) ∷ []) ++ answers)
+  -- a run is none of the calls: it is answered for the machine that the accepted calls before it describe, and leaves it
+  runs : {m : Machine} {s : List ℕ} {budget : ℕ} {numbers : List ℕ} {o : Run.Outcome} {rest : List (List ℕ)} {trace : List (Call × Outcome)} {answers : List ℕ} →
+      commandOf s ≡ run budget numbers → DryRuns m numbers budget o → Transcript m rest trace answers → Transcript m (s ∷ rest) trace (ranLine m o ++ answers)
+  passes : {m : Machine} {s : List ℕ} {rest : List (List ℕ)} {trace : List (Call × Outcome)} {answers : List ℕ} →
+      commandOf s ≡ no-command → Transcript m rest trace answers → Transcript m (s ∷ rest) trace (unknown ++ answers)
 
 -- Lines that are one list of calls of demand 3 from a machine on, with all that is answered.
 pub record OneList (m : Machine) (lines : List (List ℕ)) (answers : List ℕ) : Type 0 where
   pub trace : List (Call × Outcome)
   pub session : Session m trace
-  pub transcript : Transcript lines trace answers
+  pub transcript : Transcript m lines trace answers
 
 -- Lines that are a list of demand 3 up to each scheme file that is accepted, and another one from the fresh machine of that file on.
 pub data ListsInTurn : Machine → List (List ℕ) → List ℕ → Type 0 where

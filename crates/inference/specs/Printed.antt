@@ -3,7 +3,7 @@ use Prim.Native.Nat.{ℕ}
 use mathlib.Core.List.{List}
 use Rattle.model.specs.Machine.{Machine}
 use Rattle.model.specs.Session.{Outcome, Infers}
-use Rattle.model.specs.Script.{shown}
+use Rattle.model.specs.Text.{shown}
 use Rattle.report.specs.Writing.{Front}
 
 -- The report, or the line of the refusal, stands at the front of the buffer.

@@ -13,7 +13,6 @@ pub mod Opened
 pub mod Limits
 pub mod Numbers
 pub mod Length
-pub mod Scripts
 pub mod LongFiles
 pub mod LongLines
 pub mod Examples

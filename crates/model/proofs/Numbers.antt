@@ -10,8 +10,7 @@ use Rattle.scheme.proofs.Every.{and-left, and-right}
 use Rattle.model.specs.Lists.{allOf}
 use Rattle.model.specs.Line.{lineOf}
 use Rattle.model.specs.Machine.{Machine, firstFailing, typeRefusal, paramRefusal, termRefusal, settled, entered, added, redeclared, takenBack}
-use Rattle.model.specs.SchemeFile.{schemeRefusal, openedWith}
-use Rattle.model.specs.Script.{restarted}
+use Rattle.model.specs.SchemeFile.{schemeRefusal, openedWith, opened}
 use Rattle.model.specs.declared.Line.{Line}
 use Rattle.model.specs.declared.Line.the-variants.{TypeLine, ParamLine, TermLine, NoForm}
 
@@ -44,6 +43,6 @@ pub taken-back-most : (m : Machine) → takenBack m .number ≤ 12
 unfolding takenBack settled
 taken-back-most m = failing-most 12 _ refl
 
-pub restarted-most : (m : Machine) (file : List ℕ) → restarted m file .number ≤ 27
-unfolding settled openedWith schemeRefusal
-restarted-most m file = failing-most 27 _ refl
+pub opened-most : (file : List ℕ) → opened file .number ≤ 27
+unfolding openedWith schemeRefusal
+opened-most file = failing-most 27 _ refl

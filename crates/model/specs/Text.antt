@@ -5,7 +5,7 @@ use mathlib.Core.Bool.{cond}
 use mathlib.Core.List.{List, [], _∷_}
 use mathlib.Core.Path.{_≡_}
 use lib.Dec.{eqb}
-use lib.ListN.{length}
+use lib.ListN.{length, take}
 use Rattle.model.specs.Lists.{bytes}
 use Rattle.model.specs.Number.{decimal}
 pub use Rattle.model.specs.Line.{linesOf}
@@ -39,6 +39,10 @@ pub data Prints (T : SchemeTable) (text : List ℕ) : List ℕ → Type 0 where
       Judged (ruling m) m number k word shape → ¬ (number ≡ 0) → Prints T text (line (bytes "NO" ∷ decimal number ∷ decimal k ∷ []))
   -- "infers and prints the report"
   reported : {m : Machine} {word : Slot → ℕ} {shape : Slot → Shape} → load T text ≡ loaded m → Judged (ruling m) m 0 0 word shape → Prints T text (report m word shape)
+
+-- The same of an infer call's outcome, whose buffer holds the report.
+abbrev pub shown : Outcome → List ℕ
+shown o = cond (eqb (o .number) 0) (take (o .size) (o .buffer)) (line (bytes "NO" ∷ decimal (o .number) ∷ decimal (o .row) ∷ []))
 
 -- What the loader's C entry returns, and the buffer after it.
 pub data Returns (T : SchemeTable) (text buffer : List ℕ) : ℕ → List ℕ → Type 0 where

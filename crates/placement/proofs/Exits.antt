@@ -14,8 +14,7 @@ use Rattle.schemes.specs.declared.Opened.{Opened}
 use Rattle.model.specs.Lists.{bytes}
 use Rattle.model.specs.Report.{report}
 use Rattle.model.specs.Session.{Outcome, Infers}
-use Rattle.model.specs.Script.{shown}
-use Rattle.model.specs.Text.{load, Prints, Returns, ReturnsUnder}
+use Rattle.model.specs.Text.{load, Prints, shown, Returns, ReturnsUnder}
 use Rattle.model.proofs.Limits.{well-formed-within}
 use Rattle.table.specs.Lists.{lists}
 use Rattle.text.specs.Loads.{Loads}

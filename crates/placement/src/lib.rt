@@ -4,7 +4,7 @@ ghost use Prim.Native.Nat.{_≤_};
 ghost use lib.ListN.{length, take};
 ghost use Rattle.scheme.specs.Six.{sixTable};
 ghost use Rattle.schemes.specs.Schemes.{tableIn, Kept};
-ghost use Rattle.model.specs.Script.{Responds};
+ghost use Rattle.conversation.specs.Script.{Responds};
 ghost use Rattle.model.specs.Text.{Prints, Returns, ReturnsUnder};
 ghost use Rattle.dryrun.specs.Entry.{RunReturns, RunReturnsUnder};
 use schemes::Schemes;

@@ -12,6 +12,7 @@ use borrow.Author.Tests.{leb-true, ltb-true, ltb-false}
 use Rattle.scheme.proofs.Every.{and-left, and-right}
 use Rattle.model.specs.Lists.{allOf}
 use Rattle.model.specs.Line.{onto, fields}
+use Rattle.model.specs.Word.{qualifierWord}
 use Rattle.tokens.proofs.Parting.{onto-first, onto-later, some-field, at-comma, at-other}
 use Rattle.report.specs.Writing.{firstWords, Tabled, Spelled}
 use Rattle.report.specs.Written.{Short}
@@ -59,6 +60,12 @@ short-name : (names : List (List ℕ)) (k : ℕ) → allOf (λ s. leb (length s)
 short-name [] k h = omega arith
 short-name (s ∷ names) zero h = leb-true (length s) 5 (and-left _ (allOf (λ s. leb (length s) 5) names) h)
 short-name (s ∷ names) (suc k) h = short-name names k (and-right (leb (length s) 5) _ h)
+
+-- Nor is any word longer, PLAIN among them.
+pub short-word : (names : List (List ℕ)) (code : ℕ) → Short names → length (qualifierWord names code) ≤ 5
+unfolding qualifierWord
+short-word names zero short = omega arith
+short-word names (suc k) short = short-name names k (short .short)
 
 -- What the loop has made of the names: those before name k are whole, each later one becomes so with what the rest has of it, and the table has a word for each.
 pub record Making (names : List (List ℕ)) (t : List ℕ) (k : ℕ) (rest : List (List ℕ)) : Type 0 where

@@ -46,6 +46,13 @@ module _ (table : List ℕ) (names : List (List ℕ)) (spelled : Spelled table n
   same-word zero = refl
   same-word (suc k) = spelled k
 
+  module _ {l : List ℕ} {i : ℕ} (code : ℕ) (end : List ℕ) where
+    pub named-room : Room l i (qualifierWord names code ++ end) → Room l i (qualifierWord (wordsIn table) code ++ end)
+    named-room p = rw (same-word code) p
+
+    pub named-wrote : {l′ : List ℕ} {i′ : ℕ} → Wrote l i (qualifierWord (wordsIn table) code ++ end) l′ i′ → Wrote l i (qualifierWord names code ++ end) l′ i′
+    named-wrote p = rw (same-word code) at p
+
   same-variables : (variables : List ℕ) → lines (variableAt (wordsIn table) variables) 0 64 ≡ lines (variableAt names variables) 0 64
   unfolding variableText
   same-variables variables = lines-same _ _ 0 64 (λ k h. rw (same-word (getD variables k 9)))

@@ -138,6 +138,15 @@ fn write_qualifier(buffer: &mut [u8], at: usize, words: &[u8], code: u8, end: u8
     write_field(buffer, at, &words[from..from + size], end)
 }
 
+// Writes the word of a qualifier's code and the byte that ends its field, from the names of the schemes.
+pub fn write_named(buffer: &mut [u8], at: usize, names: &[u8], code: u8, end: u8) -> usize
+    requires { ⌜ Short (fields (now names)) ⌝ ∗ ⌜ Room (now buffer) at (qualifierWord (fields (now names)) code ++ (end ∷ [])) ⌝ }
+    ensures { λ r. ⌜ Wrote (now (buffer .entry)) at (qualifierWord (fields (now (names .entry))) code ++ (end ∷ [])) (now (buffer .exit)) r ⌝ }
+{
+    let words = word_table(names);
+    write_qualifier(buffer, at, &words, code, end)
+}
+
 // Writes the word of a shape's code and the byte that ends its field.
 fn write_shape(buffer: &mut [u8], at: usize, code: u8, end: u8) -> usize
     requires { ⌜ Room (now buffer) at (shapeWord (shapeOfCode code) ++ (end ∷ [])) ⌝ }

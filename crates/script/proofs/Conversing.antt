@@ -12,8 +12,8 @@ use Rattle.scheme.specs.Six.{sixTable}
 use Rattle.schemes.specs.Schemes.{Kept}
 use Rattle.model.specs.Machine.{Machine, freshMachine}
 use Rattle.model.specs.Text.{linesOf}
-use Rattle.model.specs.Script.{Dialogue, largest, Responds}
-use Rattle.model.proofs.Scripts.{conversation-same}
+use Rattle.conversation.specs.Script.{Dialogue, largest, Responds}
+use Rattle.conversation.proofs.Same.{conversation-same}
 use Rattle.table.specs.Lists.{lists}
 use Rattle.table.specs.declared.Table.{Table}
 use Rattle.table.specs.Ready.{Ready}

@@ -1,4 +1,5 @@
 pub mod Restarting
 pub mod Replying
+pub mod Running
 pub mod Conversing
 pub mod Keeping

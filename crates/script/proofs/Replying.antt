@@ -9,9 +9,10 @@ use Rattle.model.specs.Machine.{Machine, Change, added, redeclared, takenBack}
 use Rattle.model.specs.Report.{line}
 use Rattle.model.specs.Session.{Call, Outcome, returning, Answers}
 use Rattle.model.specs.Session as Session
-use Rattle.model.specs.Script.{fileIn, commandOf, Makes, answer, restarted, unknown, Replies}
-use Rattle.model.specs.Script as Script
-use Rattle.model.proofs.Numbers.{added-most, redeclared-most, taken-back-most, restarted-most}
+use Rattle.conversation.specs.Script.{fileIn, runOf, commandOf, Makes, answer, restarted, unknown, Replies}
+use Rattle.conversation.specs.Script as Script
+use Rattle.model.proofs.Numbers.{added-most, redeclared-most, taken-back-most}
+use Rattle.conversation.proofs.Numbers.{restarted-most}
 use Rattle.table.specs.Lists.{lists, change}
 use Rattle.table.specs.Called.{Called}
 use Rattle.table.specs.Called as Called
@@ -22,11 +23,11 @@ use Rattle.table.proofs.Follows.{call-follows, call-ready}
 use Rattle.report.specs.Writing.{Room, Wrote, Front}
 use Rattle.report.proofs.Fronts.{front-written, number-room}
 use Rattle.inference.specs.Printed.{Printed}
-use Rattle.command.specs.Said.{said}
+use Rattle.command.specs.Said.{said, wordLength}
 use Rattle.command.specs.declared.Command.{Command}
-use Rattle.command.specs.declared.Command.the-variants.{Add, Redeclare, TakeBack, Infer, Schemes, Nothing}
-use Rattle.command.proofs.Reading.{rest-is, add-long, schemes-long}
-use Rattle.script.specs.Turns.{Replied}
+use Rattle.command.specs.declared.Command.the-variants.{Add, Redeclare, TakeBack, Infer, Schemes, Run, Nothing}
+use Rattle.command.proofs.Reading.{rest-is}
+use Rattle.script.specs.Turns.{Replied, Told}
 use Rattle.script.specs.declared.Turn.{Turn}
 
 -- A turn with the table and the length of the answer.
@@ -43,11 +44,9 @@ replied {m} {s} {buffer} table size ready makes a front =
       fits = front .fits;
     }
 
-pub add-starts : (s : List ℕ) (c : Command) → said c s ≡ commandOf s → c ≡ Add → 4 ≤ length s
-add-starts s c reads e = add-long s (ap (λ (x : Command). said x s) (sym e) ∙ reads)
-
-pub file-starts : (s : List ℕ) (c : Command) → said c s ≡ commandOf s → c ≡ Schemes → 8 ≤ length s
-file-starts s c reads e = schemes-long s (ap (λ (x : Command). said x s) (sym e) ∙ reads)
+-- A line is as long as the word of the command that it was found to be.
+pub word-within : (s : List ℕ) {c c′ : Command} → wordLength c ≤ length s → c ≡ c′ → wordLength c′ ≤ length s
+word-within s within e = subst (λ (c : Command). wordLength c ≤ length s) e within
 
 module _ (t : Table) (s buffer : List ℕ) (ready : Ready t) (c : Command) (reads : said c s ≡ commandOf s) where
   -- The line that was read is a command that makes the call.
@@ -88,6 +87,15 @@ module _ (t : Table) (s buffer : List ℕ) (ready : Ready t) (c : Command) (read
   pub infer-replied : (before : List ℕ) (size : ℕ) → 6280 ≤ length before → c ≡ Infer → Printed (lists t) before buffer size → Replied (lists t) s buffer (turn t size)
   unfolding said
   infer-replied before size long e printed = replied t size ready (makes-as Infer e (Makes.infers long)) (Session.infers (printed .infers)) (printed .front)
+
+  pub run-replied : (size : ℕ) → c ≡ Run → Told (lists t) (runOf (take (length s - 4) (drop 4 s))) buffer size → Replied (lists t) s buffer (turn t size)
+  unfolding said
+  run-replied size e told =
+      record {
+        replies = told .replies s (sym reads ∙ ap (λ (x : Command). said x s) e ∙ ap runOf (sym (rest-is 4 s)));
+        ready = ready;
+        fits = told .fits;
+      }
 
   pub unknown-replied : (size : ℕ) → c ≡ Nothing → Front unknown buffer size → Replied (lists t) s buffer (turn t size)
   unfolding said

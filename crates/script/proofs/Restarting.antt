@@ -11,7 +11,7 @@ use lib.Seq.{take-all, take-suc, take-suc-set}
 use borrow.Author.Tests.{eq-eqb, ne-eqb}
 use Rattle.model.specs.Machine.{Change, settled}
 use Rattle.model.specs.SchemeFile.{openedWith, opened}
-use Rattle.model.specs.Script.{fileIn, restarted}
+use Rattle.conversation.specs.Script.{fileIn, restarted}
 use Rattle.model.proofs.Checks.{settled-refused, settled-accepted}
 use Rattle.model.proofs.LongFiles.{opened-front}
 use Rattle.schemes.specs.Schemes.{Kept}

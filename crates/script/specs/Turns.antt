@@ -7,7 +7,7 @@ use lib.Dec.{leb}
 use lib.ListN.{length, take}
 use lib.Seq.{sets}
 use Rattle.model.specs.Machine.{Machine}
-use Rattle.model.specs.Script.{fileIn, Replies, Conversation, largest}
+use Rattle.conversation.specs.Script.{Command, commandOf, fileIn, Replies, Conversation, largest}
 use Rattle.table.specs.Lists.{lists}
 use Rattle.table.specs.Ready.{Ready}
 use Rattle.script.specs.declared.Turn.{Turn}
@@ -17,6 +17,11 @@ pub record Replied (m : Machine) (s buffer : List ℕ) (r : Turn) : Type 0 where
   pub replies : Replies m s (take (r .size) buffer) (lists (r .table))
   pub ready : Ready (r .table)
   pub fits : r .size ≤ length buffer
+
+-- What stands at the front of the buffer answers every line that is the command, which leaves the machine as it is.
+pub record Told (m : Machine) (c : Command) (buffer : List ℕ) (r : ℕ) : Type 0 where
+  pub replies : (s : List ℕ) → commandOf s ≡ c → Replies m s (take r buffer) m
+  pub fits : r ≤ length buffer
 
 -- Bytes were written at a place if there was room for all of them.
 abbrev pub Put : List ℕ → ℕ → List ℕ → List ℕ → Type 0

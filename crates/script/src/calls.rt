@@ -3,7 +3,7 @@ ghost use mathlib.Core.Path.{_≡_};
 ghost use mathlib.Core.Bool.{cond};
 ghost use lib.Dec.{eqb};
 ghost use Rattle.model.specs.Machine.{added, redeclared, takenBack};
-ghost use Rattle.model.specs.Script.{fileIn, restarted};
+ghost use Rattle.conversation.specs.Script.{fileIn, restarted};
 ghost use Rattle.table.specs.Lists.{lists, change};
 ghost use Rattle.table.specs.Ready.{Ready};
 ghost use Rattle.script.specs.Turns.{Parted};

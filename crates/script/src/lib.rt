@@ -5,11 +5,11 @@ ghost use Prim.Native.Nat.{_+_, _≤_, min};
 ghost use lib.ListN.{length};
 ghost use Rattle.model.specs.Number.{decimal};
 ghost use Rattle.model.specs.Report.{line};
-ghost use Rattle.model.specs.Script.{unknown, largest, Responds};
+ghost use Rattle.conversation.specs.Script.{unknown, runOf, largest, Responds};
 ghost use Rattle.table.specs.Lists.{lists};
 ghost use Rattle.table.specs.Ready.{Ready};
 ghost use Rattle.report.specs.Writing.{Front};
-ghost use Rattle.script.specs.Turns.{Replied, AnsweredAt, Tried, Put, Kept};
+ghost use Rattle.script.specs.Turns.{Replied, Told, AnsweredAt, Tried, Put, Kept};
 use command::Command;
 use table::Table;
 
@@ -18,8 +18,8 @@ mod calls;
 // The length of the longest answer to a line.
 pub const ANSWER: usize = inference::REPORT;
 
-// As much of a line as decides its answer (`reply-front`): the word of a command, and as much of a scheme file as decides.
-pub const LINE: usize = 121;
+// As much of a line as decides its answer (`reply-front`): a run's word, its budget and as many of its numbers as are looked at.
+pub const LINE: usize = 730;
 
 // As much of a scheme file as decides whether it is refused (`opened-front`).
 const FILE: usize = 113;
@@ -70,6 +70,10 @@ pub fn answer(layer: Layer, table: Table, line: &[u8], buffer: &mut [u8]) -> Tur
             let size = write_number(restarted.number, buffer);
             Turn { table: after, size }
         }
+        Command::Run => {
+            let size = write_run(table, &line[4..], buffer);
+            Turn { table, size }
+        }
         Command::Nothing => {
             let size = write_unknown(buffer);
             Turn { table, size }
@@ -93,6 +97,22 @@ fn write_unknown(buffer: &mut [u8]) -> usize
     buffer[0] = b'?';
     buffer[1] = b'\n';
     2
+}
+
+// Writes the answer to a run, whose words follow: what the job that stands in the table came to. A word that is no number makes it no command.
+fn write_run(table: Table, words: &[u8], buffer: &mut [u8]) -> usize
+    requires { ⌜ Ready table × (6280 ≤ length (now buffer)) ⌝ }
+    ensures { λ r. ⌜ Told (lists table) (runOf (now (words .entry))) (now (buffer .exit)) r ⌝ }
+{
+    let mut arguments = [0u32; command::ARGUMENTS];
+    let count = command::arguments(words, &mut arguments);
+    if count == 0 {
+        return write_unknown(buffer);
+    }
+    let budget = arguments[0];
+    let ran = run::dry_run(table, &arguments[1..count], budget);
+    let names = table.schemes.names;
+    outcome::write(schemes::front(&names, table.schemes.size), ran, buffer)
 }
 
 // Answers a whole script from a fresh table. Returns the length of all answers; with less room than that nothing is written.

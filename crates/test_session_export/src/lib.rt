@@ -1,5 +1,5 @@
 // A whole script answered through the layer that lends the table: what tests in Rust link.
-ghost use Rattle.model.specs.Script.{Responds};
+ghost use Rattle.conversation.specs.Script.{Responds};
 use script::Layer;
 
 #[no_mangle]

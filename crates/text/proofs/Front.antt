@@ -14,17 +14,12 @@ use Rattle.model.specs.Machine.{Machine, freshMachine, added}
 use Rattle.model.specs.Session.{adds}
 use Rattle.model.specs.Text.{linesOf, stopped, loadFrom, load, Prints, Returns}
 use Rattle.model.proofs.Limits.{Within, fresh-within, answers-within}
+use Rattle.model.proofs.Lists.{drop-take}
 use Rattle.model.proofs.LongLines.{long-refused}
 use Rattle.lines.specs.Lines.{lineLength}
 use Rattle.lines.proofs.Lines.{line-length-most, line-length-front, lines-first}
 use Rattle.text.proofs.Accepted.{entries, fresh-entries, added-longer, entries-most}
 use Rattle.text.proofs.Turns.{load-line}
-
-drop-take : (n k : ℕ) (s : List ℕ) → drop n (take k s) ≡ take (k - n) (drop n s)
-drop-take zero k s = let all : k - 0 ≡ k = omega arith in rw all
-drop-take (suc n) zero s = let none : 0 - suc n ≡ 0 = omega arith in rw none
-drop-take (suc n) (suc k) [] = sym (take-nil (suc k - suc n))
-drop-take (suc n) (suc k) (b ∷ bs) = let less : suc k - suc n ≡ k - n = omega arith in rw less (drop-take n k bs)
 
 -- The first line of a front that holds it with its line feed.
 front-first : (room : ℕ) (s : List ℕ) → 0 < length s → lineLength s < room →

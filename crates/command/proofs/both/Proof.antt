@@ -1,3 +1,4 @@
+use mathlib.Core.Path.{refl}
 use borrow.Author.Needs.{needs}
 use Rattle.command.proofs.Reading.{readings}
 use Rattle.command.proofs.both.Statement.{statement}
@@ -16,13 +17,13 @@ enum-told-2 : tie.Need-enum-told-2
 enum-told-2 c = search needs
 
 returns : tie.Need-returns
-returns c = search (readings, needs)
+returns c = (search (readings, needs), refl)
 
 returns-2 : tie.Need-returns-2
-returns-2 c = search (readings, needs)
+returns-2 c = (search (readings, needs), refl)
 
 returns-3 : tie.Need-returns-3
-returns-3 c = search (readings, needs)
+returns-3 c = (search (readings, needs), refl)
 
 pub both-spec : {M : Type 1} → statement M
 both-spec =

@@ -1,13 +1,15 @@
 -- The commands are tried in turn.
-use Prim.Native.Nat.{_≤_}
+use Prim.Native.Nat.{ℕ, _≤_}
 use native.Mathlib.Omega.{arith}
-use mathlib.Core.Path.{refl}
+use mathlib.Core.List.{List}
+use mathlib.Core.Path.{_≡_, refl}
 use lib.ListN.{length}
 use Rattle.model.specs.Lists.{bytes}
-use Rattle.model.specs.Script.{commandOf}
+use Rattle.conversation.specs.Script.{commandOf}
+use Rattle.conversation.specs.Script as Script
 use Rattle.command.specs.Said.{said}
 use borrow.Author.Needs.{needs}
-use Rattle.command.proofs.Reading.{begins-long, test-passed, test-failed, readings}
+use Rattle.command.proofs.Reading.{begins-long, later-command, test-passed, test-failed, readings}
 use Rattle.command.proofs.read.Statement.{statement}
 use Rattle.command.proofs.read.Tie as tie
 
@@ -19,7 +21,7 @@ begins-requires c κs = search needs
 
 returns : tie.Need-returns
 unfolding said commandOf
-returns c = search (readings, needs) depth 12
+returns c = (search (readings, needs) depth 12, begins-long (bytes "add ") (c .before .before .before .before .args .s .now) _ (c .before .begins .ensures) (c .if1 .taken))
 
 slice-aggregate-begins-2 : tie.Need-slice-aggregate-begins-2
 slice-aggregate-begins-2 c = search needs
@@ -41,7 +43,7 @@ redeclare-in-requires c κs = search needs
 
 returns-2 : tie.Need-returns-2
 unfolding said commandOf
-returns-2 c = search (readings, needs) depth 12
+returns-2 c = (search (readings, needs) depth 12, omega (arith, c .redeclare-in .ensures .1))
 
 slice-aggregate-same : tie.Need-slice-aggregate-same
 slice-aggregate-same c = search needs
@@ -51,7 +53,7 @@ same-requires c κs = search needs
 
 returns-3 : tie.Need-returns-3
 unfolding said commandOf
-returns-3 c = search (readings, needs) depth 12
+returns-3 c = (search (readings, needs) depth 12, omega arith)
 
 slice-aggregate-same-2 : tie.Need-slice-aggregate-same-2
 slice-aggregate-same-2 c = search needs
@@ -61,7 +63,7 @@ same-requires-2 c κs = search needs
 
 returns-4 : tie.Need-returns-4
 unfolding said commandOf
-returns-4 c = search (readings, needs) depth 12
+returns-4 c = (search (readings, needs) depth 12, omega arith)
 
 slice-aggregate-begins-3 : tie.Need-slice-aggregate-begins-3
 slice-aggregate-begins-3 c = search needs
@@ -69,33 +71,47 @@ slice-aggregate-begins-3 c = search needs
 begins-requires-3 : tie.Need-begins-requires-3
 begins-requires-3 c κs = search needs
 
+-- The bytes of a line that is none of the first four commands.
+abbrev bytes-of : tie.Else4 → List ℕ
+bytes-of c = c .before .before .before .before .before .before .before .before .before .before .before .before .before .args .s .now
+
+later : (c : tie.Else4) (r : Script.Command) → r ≡ later-command (bytes-of c) → r ≡ commandOf (bytes-of c)
+unfolding commandOf
+later c r is =
+    let at-if3 = c .before .before .before in
+    let at-if2 = at-if3 .before .before .before in
+    let at-if1 = at-if2 .before .before .before in
+    test-failed _ _ _ _ _ (at-if1 .before .begins .ensures) (at-if1 .if1 .left)
+    (test-failed _ _ _ _ _ (at-if2 .before .begins2 .ensures) (at-if2 .if2 .left) (test-failed _ _ _ _ _ (at-if3 .before .same .ensures) (at-if3 .if3 .left) (test-failed _ _ _ _ _ (c .before .same2 .ensures) (c .if4 .left) is)))
+
 returns-5 : tie.Need-returns-5
-unfolding said commandOf
-returns-5 c =
-    let at-if4 = c .before .before .before in
-    let at-same2 = at-if4 .before in
-    let at-if3 = at-same2 .before .before in
-    let at-same = at-if3 .before in
-    let at-if2 = at-same .before .before in
-    let at-begins2 = at-if2 .before in
-    let at-if1 = at-begins2 .before .before in
-    let at-begins = at-if1 .before in
-    test-failed _ _ _ _ _ (at-begins .begins .ensures) (at-if1 .if1 .left)
-    (test-failed _ _ _ _ _ (at-begins2 .begins2 .ensures) (at-if2 .if2 .left) (test-failed _ _ _ _ _ (at-same .same .ensures) (at-if3 .if3 .left) (test-failed _ _ _ _ _ (at-same2 .same2 .ensures) (at-if4 .if4 .left) (test-passed _ _ _ _ _ (c .before .begins3 .ensures) (c .if5 .taken) refl))))
+unfolding said
+returns-5 c = (
+  later (c .before .before .before) _ (test-passed _ _ _ _ _ (c .before .begins3 .ensures) (c .if5 .taken) refl),
+  begins-long (bytes "schemes ") (bytes-of (c .before .before .before)) _ (c .before .begins3 .ensures) (c .if5 .taken),
+)
+
+slice-aggregate-begins-4 : tie.Need-slice-aggregate-begins-4
+slice-aggregate-begins-4 c = search needs
+
+begins-requires-4 : tie.Need-begins-requires-4
+begins-requires-4 c κs = search needs
 
 returns-6 : tie.Need-returns-6
-unfolding said commandOf
+unfolding said
 returns-6 c =
-    let at-if4 = c .before .before .before in
-    let at-same2 = at-if4 .before in
-    let at-if3 = at-same2 .before .before in
-    let at-same = at-if3 .before in
-    let at-if2 = at-same .before .before in
-    let at-begins2 = at-if2 .before in
-    let at-if1 = at-begins2 .before .before in
-    let at-begins = at-if1 .before in
-    test-failed _ _ _ _ _ (at-begins .begins .ensures) (at-if1 .if1 .left)
-    (test-failed _ _ _ _ _ (at-begins2 .begins2 .ensures) (at-if2 .if2 .left) (test-failed _ _ _ _ _ (at-same .same .ensures) (at-if3 .if3 .left) (test-failed _ _ _ _ _ (at-same2 .same2 .ensures) (at-if4 .if4 .left) (test-failed _ _ _ _ _ (c .before .begins3 .ensures) (c .if5 .left) refl))))
+    let at-if5 = c .before .before .before in (
+      later (at-if5 .before .before .before) _ (test-failed _ _ _ _ _ (at-if5 .before .begins3 .ensures) (at-if5 .if5 .left) (test-passed _ _ _ _ _ (c .before .begins4 .ensures) (c .if6 .taken) refl)),
+      begins-long (bytes "run ") (bytes-of (at-if5 .before .before .before)) _ (c .before .begins4 .ensures) (c .if6 .taken),
+    )
+
+returns-7 : tie.Need-returns-7
+unfolding said
+returns-7 c =
+    let at-if5 = c .before .before .before in (
+      later (at-if5 .before .before .before) _ (test-failed _ _ _ _ _ (at-if5 .before .begins3 .ensures) (at-if5 .if5 .left) (test-failed _ _ _ _ _ (c .before .begins4 .ensures) (c .if6 .left) refl)),
+      omega arith,
+    )
 
 pub read-spec : {M : Type 1} → statement M
 read-spec =
@@ -120,4 +136,7 @@ read-spec =
     slice-aggregate-begins-3
     begins-requires-3
     returns-5
-    returns-6)
+    slice-aggregate-begins-4
+    begins-requires-4
+    returns-6
+    returns-7)

@@ -1,6 +1,6 @@
 -- Each command's answer stands at the front of the buffer.
 use native.Mathlib.Omega.{arith}
-use Rattle.script.proofs.Replying.{add-starts, file-starts, add-small, redeclare-small, take-back-small, restart-small, add-replied, redeclare-replied, take-back-replied, restart-replied, infer-replied, unknown-replied}
+use Rattle.script.proofs.Replying.{word-within, add-small, redeclare-small, take-back-small, restart-small, add-replied, redeclare-replied, take-back-replied, restart-replied, infer-replied, run-replied, unknown-replied}
 use borrow.Author.Needs.{needs}
 use Rattle.script.proofs.answer.Statement.{statement}
 use Rattle.script.proofs.answer.Tie as tie
@@ -12,10 +12,10 @@ enum-told : tie.Need-enum-told
 enum-told c = search needs
 
 sub-add : tie.Need-sub-add
-sub-add c = let h = add-starts (c .before .before .before .before .before .args .line .now) _ (c .before .before .read .ensures) (c .enum-told .given .1) in omega arith
+sub-add c = let h = word-within (c .before .before .before .before .before .args .line .now) (c .before .before .read .ensures .1) (c .enum-told .given .1) in omega arith
 
 part-add-start : tie.Need-part-add-start
-part-add-start c = let h = add-starts (c .before .before .before .before .before .args .line .now) _ (c .before .before .read .ensures) (c .enum-told .given .1) in omega arith
+part-add-start c = let h = word-within (c .before .before .before .before .before .args .line .now) (c .before .before .read .ensures .1) (c .enum-told .given .1) in omega arith
 
 part-add-end : tie.Need-part-add-end
 part-add-end c = search needs
@@ -60,10 +60,10 @@ enum-told-4 : tie.Need-enum-told-4
 enum-told-4 c = search needs
 
 sub-restart : tie.Need-sub-restart
-sub-restart c = let h = file-starts (c .before .before .before .before .before .args .line .now) _ (c .before .before .read .ensures) (c .enum-told4 .given .1) in omega arith
+sub-restart c = let h = word-within (c .before .before .before .before .before .args .line .now) (c .before .before .read .ensures .1) (c .enum-told4 .given .1) in omega arith
 
 part-restart-start : tie.Need-part-restart-start
-part-restart-start c = let h = file-starts (c .before .before .before .before .before .args .line .now) _ (c .before .before .read .ensures) (c .enum-told4 .given .1) in omega arith
+part-restart-start c = let h = word-within (c .before .before .before .before .before .args .line .now) (c .before .before .read .ensures .1) (c .enum-told4 .given .1) in omega arith
 
 part-restart-end : tie.Need-part-restart-end
 part-restart-end c = search needs
@@ -76,6 +76,21 @@ write-number-requires-4 c κs = (search (restart-small, needs), search needs)
 
 enum-told-5 : tie.Need-enum-told-5
 enum-told-5 c = search needs
+
+sub-write-run : tie.Need-sub-write-run
+sub-write-run c = let h = word-within (c .before .before .before .before .before .args .line .now) (c .before .before .read .ensures .1) (c .enum-told5 .given .1) in omega arith
+
+part-write-run-start : tie.Need-part-write-run-start
+part-write-run-start c = let h = word-within (c .before .before .before .before .before .args .line .now) (c .before .before .read .ensures .1) (c .enum-told5 .given .1) in omega arith
+
+part-write-run-end : tie.Need-part-write-run-end
+part-write-run-end c = search needs
+
+write-run-requires : tie.Need-write-run-requires
+write-run-requires c κs = search needs
+
+enum-told-6 : tie.Need-enum-told-6
+enum-told-6 c = search needs
 
 write-unknown-requires : tie.Need-write-unknown-requires
 write-unknown-requires c κs = search needs
@@ -114,7 +129,13 @@ same-length-6 : tie.Need-same-length-6
 same-length-6 c = search needs
 
 returns-6 : tie.Need-returns-6
-returns-6 c = search (unknown-replied, needs)
+returns-6 c = search (run-replied, needs)
+
+same-length-7 : tie.Need-same-length-7
+same-length-7 c = search needs
+
+returns-7 : tie.Need-returns-7
+returns-7 c = search (unknown-replied, needs)
 
 pub answer-spec : {M : Type 1} → statement M
 answer-spec =
@@ -144,6 +165,11 @@ answer-spec =
     restart-requires
     write-number-requires-4
     enum-told-5
+    sub-write-run
+    part-write-run-start
+    part-write-run-end
+    write-run-requires
+    enum-told-6
     write-unknown-requires
     same-length
     returns
@@ -156,4 +182,6 @@ answer-spec =
     same-length-5
     returns-5
     same-length-6
-    returns-6)
+    returns-6
+    same-length-7
+    returns-7)
