@@ -1,6 +1,7 @@
 -- What is promised, on one page: the three demands as theorems, as document 02 words them now. What their words mean stands in model/specs and in specs/ here;
 -- by demand 3 every list of calls that the code ran is a `Session`, so that demands 1 and 2 hold of it.
 use Prim.Native.Nat.{ℕ, _≤_, _<_}
+use native.Mathlib.Omega.{arith}
 use mathlib.Core.Bool.{true}
 use mathlib.Core.List.{List, [], _∷_, _++_, map}
 use mathlib.Core.Path.{_≡_}
@@ -16,6 +17,7 @@ use Rattle.model.specs.Line.{field, lineOf}
 use Rattle.model.specs.Machine.{Machine, freshMachine, paramAt}
 use Rattle.model.specs.SchemeFile.{opened}
 use Rattle.model.specs.Closed.{Closed}
+use Rattle.model.specs.WellFormed.{WellFormed}
 use Rattle.model.specs.Typing.{Typable}
 use Rattle.model.specs.Strength.{whole}
 use Rattle.model.specs.Inference.{ruling, Slot, Shape, Refusal, GreatestTyping}
@@ -37,6 +39,13 @@ use Rattle.inference.specs.Ran.{Step, changes, Ran}
 use Rattle.inference.proofs.Follows.{tables-follow, files-follow, session-follows}
 use Rattle.inference.proofs.Corollaries.{open-exactly, refused-untypable, untypable-refused, reported-greatest}
 use Rattle.answered.proofs.Answered.{every-list-answered as list-has-answers}
+use Rattle.dryrun.specs.Expression.{Expression}
+use Rattle.dryrun.specs.Transition.{Tagged, Plain, Goes, Meets, untaggedForm}
+use Rattle.dryrun.specs.Run.{Counts, nothingMade, steps, untaggedOutcome, Runs, Reaches, job, Accepted, DryRuns}
+use Rattle.dryrun.specs.Run as Run
+use Rattle.dryrun.proofs.Same.{dry-runs-same}
+use Rattle.dryrun.proofs.Untagged.{untagged-reaches, untagged-runs}
+use Rattle.dryrun.proofs.Promises.{never-two-tags, never-stuck, always-ends, runs-within}
 use Rattle.text.proofs.Front.{prints-front, returns-front}
 use Rattle.text.proofs.Same.{prints-same, returns-same}
 use Rattle.text.proofs.Under.{under-same, under-front, six-under}
@@ -298,3 +307,30 @@ variable-letter-fixed = variable-letter
 -- "Reports are written in capitals as before."
 pub reports-in-capitals : {m : Machine} {buffer : List ℕ} {o : Outcome} → Sound (m .schemes) → Infers m buffer o → o .number ≡ 0 → capitals (reportIn o) ≡ reportIn o
 reports-in-capitals = reported-capitals
+
+-- Document 02, e). "The answer" of a dry run is a function of the machine, the numbers and the budget.
+pub dry-run-determined : {m : Machine} → WellFormed m → (numbers : List ℕ) (budget : ℕ) {o o′ : Run.Outcome} → DryRuns m numbers budget o → DryRuns m numbers budget o′ → o ≡ o′
+dry-run-determined {m} w = dry-runs-same m w
+
+-- "A run never meets two operands with different tags": of no expression that the run of an accepted job comes by.
+pub dry-run-one-tag : {m : Machine} {word : Slot → ℕ} {shape : Slot → Shape} → Accepted m word shape → (numbers : List ℕ) {e : Expression} {made : Counts} {t u : ℕ} →
+    Reaches (Tagged (ruling m)) (job m word numbers) nothingMade e made → Meets e t u → t ≡ u
+dry-run-one-tag = never-two-tags
+
+-- "and at each step its untagged form is the plain run's": with the same steps made, and so the same outcome but for the tag.
+pub dry-run-untagged-steps : (m : Machine) (word : Slot → ℕ) (numbers : List ℕ) {e : Expression} {made : Counts} →
+    Reaches (Tagged (ruling m)) (job m word numbers) nothingMade e made → Reaches Plain (untaggedForm (job m word numbers)) nothingMade (untaggedForm e) made
+dry-run-untagged-steps m word numbers = untagged-reaches
+
+pub dry-run-untagged : (m : Machine) (word : Slot → ℕ) (numbers : List ℕ) {budget : ℕ} {o : Run.Outcome} →
+    Runs (Tagged (ruling m)) budget (job m word numbers) nothingMade o → Runs Plain budget (untaggedForm (job m word numbers)) nothingMade (untaggedOutcome o)
+dry-run-untagged m word numbers = untagged-runs
+
+-- A run is never stuck, ends with every budget, and makes no more steps than it.
+pub dry-run-never-stuck : {m : Machine} {word : Slot → ℕ} {shape : Slot → Shape} → Accepted m word shape → (numbers : List ℕ) {e : Expression} {made : Counts} →
+    Reaches (Tagged (ruling m)) (job m word numbers) nothingMade e made → Goes (Tagged (ruling m)) e
+dry-run-never-stuck = never-stuck
+
+pub dry-run-ends : {m : Machine} {word : Slot → ℕ} {shape : Slot → Shape} → Accepted m word shape → (numbers : List ℕ) (budget : ℕ) →
+    (o : Run.Outcome) × Runs (Tagged (ruling m)) budget (job m word numbers) nothingMade o × (steps (o .counts) ≤ budget)
+dry-run-ends accepted numbers budget = let (o, r) = always-ends accepted numbers budget in (o, r, runs-within r (omega arith))

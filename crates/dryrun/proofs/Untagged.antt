@@ -7,7 +7,7 @@ use Rattle.scheme.specs.Operation.{keeps}
 use Rattle.model.specs.Strength.{Schemes}
 use Rattle.dryrun.specs.Expression.{Expression, number, variable, function, apply, operate, Value, a-number, a-function, substituted}
 use Rattle.dryrun.specs.Transition.{Rule, Kind, application, operation, calculated, resultTag, Step, applies, operates, in-function, in-argument, in-left, in-right, Tagged, Plain, untagged, untaggedForm}
-use Rattle.dryrun.specs.Run.{Answer, Counts, Outcome, no-answer, steps, counted, Fits, applying, in-range, Runs, ends-number, ends-function, out-of-budget, too-deep, overflows, steps-on, Reaches, itself, further}
+use Rattle.dryrun.specs.Run.{Counts, Outcome, untaggedAnswer, untaggedOutcome, steps, counted, Fits, applying, in-range, Runs, ends-number, ends-function, out-of-budget, too-deep, overflows, steps-on, Reaches, itself, further}
 
 untagged-value : {v : Expression} → Value v → Value (untaggedForm v)
 unfolding untaggedForm
@@ -57,15 +57,6 @@ module _ {W : Rule} where
   pub untagged-reaches : {e e″ : Expression} {made made″ : Counts} → Reaches W e made e″ made″ → Reaches Plain (untaggedForm e) made (untaggedForm e″) made″
   untagged-reaches itself = itself
   untagged-reaches (further s fits r) = further (untagged-step s) fits (untagged-reaches r)
-
--- The answer without its tag.
-unfoldable pub untaggedAnswer : Answer → Answer
-untaggedAnswer (Answer.a-number n tag) = Answer.a-number n 0
-untaggedAnswer Answer.a-function = Answer.a-function
-untaggedAnswer Answer.no-answer = Answer.no-answer
-
-abbrev pub untaggedOutcome : Outcome → Outcome
-untaggedOutcome o = record { refusal = o .refusal; counts = o .counts; answer = untaggedAnswer (o .answer) }
 
 -- The whole plain run ends alike: the same number, counts and refusal.
 pub untagged-runs : {W : Rule} {budget : ℕ} {e : Expression} {made : Counts} {o : Outcome} → Runs W budget e made o →

@@ -35,6 +35,15 @@ refused reason made = record { refusal = reason; counts = made; answer = no-answ
 abbrev pub ended : Answer → Counts → Outcome
 ended answer made = record { refusal = 0; counts = made; answer = answer }
 
+-- Its "untagged form": the answer without its tag.
+unfoldable pub untaggedAnswer : Answer → Answer
+untaggedAnswer (a-number n tag) = a-number n 0
+untaggedAnswer a-function = a-function
+untaggedAnswer no-answer = no-answer
+
+abbrev pub untaggedOutcome : Outcome → Outcome
+untaggedOutcome o = record { refusal = o .refusal; counts = o .counts; answer = untaggedAnswer (o .answer) }
+
 abbrev pub nothingMade : Counts
 nothingMade = record { applications = 0; operations = 0 }
 
