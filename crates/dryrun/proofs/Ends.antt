@@ -8,7 +8,7 @@ use Rattle.dryrun.specs.Transition.{Rule, Kind, application, operation, 
 use Rattle.dryrun.specs.Run.{Counts, Outcome, nothingMade, steps, counted, largestNumber, mostContexts, Fits, applying, in-range, Runs, ends-number, ends-function, out-of-budget, too-deep, overflows, steps-on, Reaches, itself, further}
 use Rattle.dryrun.proofs.Determined.{value-stays}
 
-counted-one : (kind : Kind) (made : Counts) → steps (counted kind made) ≡ suc (steps made)
+pub counted-one : (kind : Kind) (made : Counts) → steps (counted kind made) ≡ suc (steps made)
 counted-one application made = omega arith
 counted-one (operation n) made = omega arith
 

@@ -70,11 +70,12 @@ module _ (m : Machine) (w : WellFormed m) where
         applied-words (unfolded m word (length (m .terms)) (lastRow m)) (leading m) numbers (λ p e. leading-declared p (length (m .terms)) (lastRow m) (omega arith) e)
         ∙ ap (λ (e : Expression). applied word′ e (leading m) numbers) (unfolded-words (length (m .terms)) (lastRow m) (omega arith))
 
-judged-closed : {S : Schemes} {m : Machine} {n k : ℕ} {word : Slot → ℕ} {shape : Slot → Shape} → Judged S m n k word shape → n ≡ 0 → 0 < length (m .terms)
+-- What infer accepts is closed.
+pub judged-closed : {S : Schemes} {m : Machine} {n k : ℕ} {word : Slot → ℕ} {shape : Slot → Shape} → Judged S m n k word shape → n ≡ 0 → Closed m
 judged-closed (Judged.not-closed no-closed) e = let z : ⊥ = omega arith in absurd z
-judged-closed (Judged.not-typable closed r) e = closed .some-row
-judged-closed (Judged.below-floor closed a missed) e = closed .some-row
-judged-closed (Judged.typed closed a met) e = closed .some-row
+judged-closed (Judged.not-typable closed r) e = closed
+judged-closed (Judged.below-floor closed a missed) e = closed
+judged-closed (Judged.typed closed a met) e = closed
 
 module _ (m : Machine) (w : WellFormed m) where
   abbrev lawful : Lawful (ruling m)
@@ -85,14 +86,14 @@ module _ (m : Machine) (w : WellFormed m) where
       (p : ℕ) → contains p (leading m) ≡ true → shape (param p) ≡ shape′ (param p)
   leading-shape j j′ p l =
       shapes-same (ruling m) lawful m (judged-accepted j refl) (judged-accepted j′ refl) (param p)
-      (leading-declared m w p (length (m .terms)) (lastRow m) (omega (arith, judged-closed j refl)) l)
+      (leading-declared m w p (length (m .terms)) (lastRow m) (omega (arith, judged-closed j refl .some-row)) l)
 
   -- They have one expression to start from.
   job-same : {word word′ : Slot → ℕ} {shape shape′ : Slot → Shape} → Judged (ruling m) m 0 0 word shape → Judged (ruling m) m 0 0 word′ shape′ →
       (numbers : List ℕ) → job m word numbers ≡ job m word′ numbers
   job-same {word} {word′} j j′ numbers =
       let same = word-same (ruling m) lawful m (judged-accepted j refl) (judged-accepted j′ refl) in
-      job-words m w word word′ (λ i h. same (row i) h) (λ p h. same (param p) h) (judged-closed j refl) numbers
+      job-words m w word word′ (λ i h. same (row i) h) (λ p h. same (param p) h) (judged-closed j refl .some-row) numbers
 
   pub dry-runs-same : (numbers : List ℕ) (budget : ℕ) {o o′ : Outcome} → DryRuns m numbers budget o → DryRuns m numbers budget o′ → o ≡ o′
   dry-runs-same numbers budget (not-accepted j h) (not-accepted j′ h′) = refl

@@ -7,6 +7,7 @@ use mathlib.Core.Path.{_≡_}
 use lib.ListN.{length}
 use Rattle.model.specs.Lists.{contains}
 use Rattle.model.specs.Machine.{Machine}
+use Rattle.model.specs.WellFormed.{WellFormed}
 use Rattle.model.specs.Inference.{ruling, Slot, param, Shape, Judged}
 use Rattle.dryrun.specs.Expression.{Expression, number, function, Value, unfolded, leadingFrom, applied}
 use Rattle.dryrun.specs.Transition.{Rule, Tagged, Kind, application, operation, Step}
@@ -101,6 +102,12 @@ job m word numbers = applied word (unfolded m word (length (m .terms)) (lastRow 
 -- No "leading parameter of shape ARROW".
 abbrev pub NoArrow : Machine → (Slot → Shape) → Type 0
 NoArrow m shape = (p : ℕ) → contains p (leading m) ≡ true → ¬ (shape (param p) ≡ Shape.arrow)
+
+-- An accepted job: infer accepts the program, and numbers may stand for its leading parameters.
+pub record Accepted (m : Machine) (word : Slot → ℕ) (shape : Slot → Shape) : Type 0 where
+  pub well-formed : WellFormed m
+  pub judged : Judged (ruling m) m 0 0 word shape
+  pub no-arrow : NoArrow m shape
 
 -- What a call answers.
 pub data DryRuns (m : Machine) (numbers : List ℕ) (budget : ℕ) : Outcome → Type 0 where

@@ -3,7 +3,7 @@ use Prim.Native.Nat.{ℕ, _+_, _*_, _≤_}
 use native.Mathlib.Omega.{arith}
 use native.Mathlib.Decide.{ℕ-discrete}
 use mathlib.Core.List.{List}
-use mathlib.Core.Path.{_≡_, sym, ap₂, subst, _∙_}
+use mathlib.Core.Path.{_≡_, sym, ap, ap₂, subst, _∙_}
 use lib.ListN.{length, take}
 use lib.Seq.{take-all, take-append-seam}
 use borrow.Author.Tests.{eq-eqb, ne-eqb}
@@ -14,12 +14,17 @@ use Rattle.schemes.specs.declared.Opened.{Opened}
 use Rattle.model.specs.Lists.{bytes}
 use Rattle.model.specs.Report.{report}
 use Rattle.model.specs.Session.{Outcome, Infers}
-use Rattle.model.specs.Text.{Prints, shown, Returns, ReturnsUnder}
+use Rattle.model.specs.Text.{load, Prints, shown, Returns, ReturnsUnder}
 use Rattle.model.proofs.Limits.{well-formed-within}
 use Rattle.table.specs.Lists.{lists}
 use Rattle.text.specs.Loads.{Loads}
 use Rattle.text.specs.declared.Loaded.{Loaded}
-use Rattle.text.proofs.Front.{returns-front}
+use Rattle.text.proofs.Front.{load-front, returns-front}
+use Rattle.dryrun.specs.Run.{DryRuns}
+use Rattle.dryrun.specs.Entry.{RunReturns, RunReturnsUnder}
+use Rattle.evaluator.specs.Evaluation.{outcome as ranOutcome}
+use Rattle.evaluator.specs.declared.Ran.{Ran}
+use Rattle.run.specs.Answered.{Answered}
 use Rattle.report.specs.Writing.{Room, Wrote, Front, pairText}
 use Rattle.report.proofs.Fronts.{front-written, pair-room}
 use Rattle.inference.specs.Outcome.{outcome}
@@ -60,6 +65,28 @@ module _ (file text buffer : List ℕ) (r : Opened) (reads : Reads file r) where
   pub file-accepted : {n : ℕ} {after : List ℕ} → r .number ≡ 0 → Returns (tableIn (r .schemes)) text buffer n after → ReturnsUnder file text buffer n after
   file-accepted {n} {after} all returns =
       ReturnsUnder.accepted-file (sym (reads .refusal) ∙ all) (subst (λ (T : SchemeTable). Returns T text buffer n after) (reads .table) returns)
+
+-- The entry for dry runs.
+module _ {T : SchemeTable} (sound : Sound T) (text part numbers : List ℕ) (budget : ℕ) (answer : List ℕ) (is : part ≡ take 25025 text) (r : Loaded) (loads : Loads T part r)
+    (long : 4 ≤ length answer) where
+  same-load : load T part ≡ load T text
+  same-load = ap (load T) is ∙ load-front T sound text
+
+  pub run-stopped : ¬ (r .number ≡ 0) → RunReturns T text numbers budget answer (r .number * 1000 + r .line) answer
+  run-stopped stop = RunReturns.refused-add long (sym same-load ∙ loads .stop stop)
+
+  pub run-answered : {ran : Ran} {after : List ℕ} {n : ℕ} → r .number ≡ 0 → DryRuns (lists (r .table)) numbers budget (ranOutcome ran) → Answered ran answer after n →
+      RunReturns T text numbers budget answer n after
+  run-answered all runs answered = rw (answered .array, answered .number) (RunReturns.ran long (sym same-load ∙ loads .all all) runs)
+
+module _ (file text numbers : List ℕ) (budget : ℕ) (answer : List ℕ) (r : Opened) (reads : Reads file r) where
+  pub run-file-refused : ¬ (r .number ≡ 0) → 4 ≤ length answer → RunReturnsUnder file text numbers budget answer (r .number * 1000) answer
+  run-file-refused stop long =
+      subst (λ (k : ℕ). RunReturnsUnder file text numbers budget answer (k * 1000) answer) (sym (reads .refusal)) (RunReturnsUnder.refused-file long (λ z. stop (reads .refusal ∙ z)))
+
+  pub run-file-accepted : {n : ℕ} {after : List ℕ} → r .number ≡ 0 → RunReturns (tableIn (r .schemes)) text numbers budget answer n after → RunReturnsUnder file text numbers budget answer n after
+  run-file-accepted {n} {after} all returns =
+      RunReturnsUnder.accepted-file (sym (reads .refusal) ∙ all) (subst (λ (T : SchemeTable). RunReturns T text numbers budget answer n after) (reads .table) returns)
 
 -- What is printed.
 module _ {T : SchemeTable} (text buffer : List ℕ) (r : Loaded) (loads : Loads T text r) (long : 6280 ≤ length buffer) where

@@ -6,13 +6,17 @@ ghost use Rattle.scheme.specs.Six.{sixTable};
 ghost use Rattle.schemes.specs.Schemes.{tableIn, Kept};
 ghost use Rattle.conversation.specs.Script.{Responds};
 ghost use Rattle.model.specs.Text.{Prints, Returns, ReturnsUnder};
+ghost use Rattle.dryrun.specs.Entry.{RunReturns, RunReturnsUnder};
 use schemes::Schemes;
 use script::Layer;
 
 // What stands in a text after this many bytes does not matter: 385 lines of 64 bytes and a line feed (`load-front`).
 pub const TEXT: usize = 25025;
 
-// What both entries return for a buffer that is shorter than the longest report.
+// The places of a dry run's answer: the number, its tag, the applications and the operations.
+const ANSWER: usize = 4;
+
+// What the entries return for a buffer that is shorter than the longest report, and for an answer without its four places.
 const SHORT: u32 = 11000;
 
 // The length of the longest text that `place` prints.
@@ -40,6 +44,56 @@ pub extern "C" fn placement_report_under(file: &[u8], text: &[u8], buffer: &mut 
         return opened.number as u32 * 1000;
     }
     report(opened.schemes, text, buffer)
+}
+
+// The entry for dry runs: 100,000 for a number and 100,001 for a function, or 1,000 times a refusal's number, with the number, its tag, the applications
+// and the operations in the answer; or, with the answer as it was, 11,000 for fewer than four places, and what refuses a line.
+#[no_mangle]
+pub extern "C" fn placement_run(
+    text: &[u8],
+    numbers: &[u32],
+    budget: u32,
+    answer: &mut [u32],
+) -> u32
+    ensures { λ r. ⌜ RunReturns sixTable (now (text .entry)) (now (numbers .entry)) budget (now (answer .entry)) r (now (answer .exit)) ⌝ }
+{
+    run_text(Schemes::six(), text, numbers, budget, answer)
+}
+
+// The same for an owner's schemes: a short answer is told first, then what refuses the file.
+#[no_mangle]
+pub extern "C" fn placement_run_under(
+    file: &[u8],
+    text: &[u8],
+    numbers: &[u32],
+    budget: u32,
+    answer: &mut [u32],
+) -> u32
+    ensures { λ r. ⌜ RunReturnsUnder (now (file .entry)) (now (text .entry)) (now (numbers .entry)) budget (now (answer .entry)) r (now (answer .exit)) ⌝ }
+{
+    if answer.len() < ANSWER {
+        return SHORT;
+    }
+    let opened = Schemes::open(file);
+    if opened.number != 0 {
+        return opened.number as u32 * 1000;
+    }
+    run_text(opened.schemes, text, numbers, budget, answer)
+}
+
+// What both entries for dry runs return, under any scheme table.
+fn run_text(schemes: Schemes, text: &[u8], numbers: &[u32], budget: u32, answer: &mut [u32]) -> u32
+    requires { ⌜ Kept schemes ⌝ }
+    ensures { λ r. ⌜ RunReturns (tableIn schemes) (now (text .entry)) (now (numbers .entry)) budget (now (answer .entry)) r (now (answer .exit)) ⌝ }
+{
+    if answer.len() < ANSWER {
+        return SHORT;
+    }
+    let loaded = text::load(schemes, front(text));
+    if loaded.number != 0 {
+        return loaded.number as u32 * 1000 + loaded.line as u32;
+    }
+    run::write_answer(run::dry_run(loaded.table, numbers, budget), answer)
 }
 
 // What both return, under any scheme table.

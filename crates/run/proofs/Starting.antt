@@ -22,6 +22,7 @@ use Rattle.report.specs.declared.Codes.{Codes}
 use Rattle.dryrun.specs.Expression.{Expression, variable}
 use Rattle.dryrun.specs.Transition.{Tagged}
 use Rattle.dryrun.specs.Run.{nothingMade, refused, Outcome, Runs, itself, mostContexts, lastRow, leading, job, NoArrow, allowed, DryRuns, not-accepted, wrong-count, arrow, ran}
+use Rattle.dryrun.proofs.Same.{judged-closed}
 use Rattle.dryrun.proofs.Promises.{never-stuck, never-free}
 use Rattle.environments.specs.Kinds.{functionTag}
 use Rattle.environments.specs.Standing.{Safe, Cells, Frames, close, plug, rowOf, nothing, a-row, Standing}
@@ -45,12 +46,6 @@ none-framed =
 -- So many numbers leave room for the frames of a run.
 pub first-low : {row numbers : ℕ} {p : Point} → p ≡ firstPoint row numbers → numbers ≤ 256 → p .depth ≤ suc mostContexts
 first-low first few = omega (arith, ap (λ (p : Point). p .depth) first)
-
-judged-closed : {m : Machine} {n k : ℕ} {word : Slot → ℕ} {shape : Slot → Shape} → Judged (ruling m) m n k word shape → n ≡ 0 → Closed m
-judged-closed (Judged.not-closed none) e = let z : ⊥ = omega arith in absurd z
-judged-closed (Judged.not-typable closed r) e = closed
-judged-closed (Judged.below-floor closed a missed) e = closed
-judged-closed (Judged.typed closed a met) e = closed
 
 module _ (t : Table) (ready : Ready t) (codes : Codes) (judged : Judged (ruling (lists t)) (lists t) 0 0 (codedWord codes) (codedShape codes)) where
   abbrev m : Machine
@@ -113,8 +108,8 @@ module _ (t : Table) (ready : Ready t) (codes : Codes) (judged : Judged (ruling 
       job-safe : Safe m (job m word numbers)
       job-safe =
           record {
-            goes = never-stuck m (ready .well-formed) closed word (codedShape codes) accepted no-arrow numbers;
-            none-free = never-free m (ready .well-formed) closed word (codedShape codes) accepted no-arrow numbers;
+            goes = never-stuck (record { well-formed = ready .well-formed; judged = judged; no-arrow = no-arrow }) numbers;
+            none-free = never-free (record { well-formed = ready .well-formed; judged = judged; no-arrow = no-arrow }) numbers;
           }
 
       -- The first point stands for the job, whatever the cells hold.

@@ -6,8 +6,12 @@ ghost use Rattle.table.specs.Lists.{lists};
 ghost use Rattle.table.specs.Ready.{Ready};
 ghost use Rattle.report.specs.Codes.{codedWord, codedShape};
 ghost use Rattle.dryrun.specs.Run.{DryRuns, allowed};
-ghost use Rattle.evaluator.specs.Evaluation.{outcome};
+ghost use lib.ListN.{length};
+ghost use Rattle.dryrun.specs.Entry.{valueOf, tagOf, endedAs};
+ghost use Rattle.evaluator.specs.Evaluation.{answered, outcome};
+ghost use Rattle.run.specs.Answered.{Answered};
 ghost use Rattle.run.specs.First.{firstPoint};
+use evaluator::Answer;
 use evaluator::Ran;
 use evaluator::refused;
 use inference::judge;
@@ -91,5 +95,54 @@ fn first_point(row: usize, numbers: usize) -> Point
         depth: numbers as u16,
         applications: 0,
         operations: 0,
+    }
+}
+
+// Writes the four numbers of an answer to the front of an array, and returns how the run ended.
+pub fn write_answer(ran: Ran, answer: &mut [u32]) -> u32
+    requires { ⌜ 4 ≤ length (now answer) ⌝ }
+    ensures { λ r. ⌜ Answered ran (now (answer .entry)) (now (answer .exit)) r ⌝ }
+{
+    let refusal = ran.refusal;
+    let applications = ran.applications as u32;
+    let operations = ran.operations as u32;
+    let end = ran.answer;
+    let value = value_of(end);
+    answer[0] = value.number;
+    answer[1] = value.tag;
+    answer[2] = applications;
+    answer[3] = operations;
+    if refusal != 0 {
+        return refusal as u32 * 1000;
+    }
+    value.ended
+}
+
+// An answer's number and tag, and how it is told from the others.
+struct Value {
+    number: u32,
+    tag: u32,
+    ended: u32,
+}
+
+fn value_of(answer: Answer) -> Value
+    ensures { λ r. ⌜ (r .number ≡ valueOf (answered answer)) × (r .tag ≡ tagOf (answered answer)) × (r .ended ≡ endedAs (answered answer)) ⌝ }
+{
+    match answer {
+        Answer::Number(number, tag) => Value {
+            number,
+            tag: tag as u32,
+            ended: 100000,
+        },
+        Answer::Function => Value {
+            number: 0,
+            tag: 0,
+            ended: 100001,
+        },
+        Answer::Nothing => Value {
+            number: 0,
+            tag: 0,
+            ended: 0,
+        },
     }
 }

@@ -110,6 +110,7 @@ pub fn word(line: &[u8]) -> &'static str {
         Some(Command::TakeBack) => "take-back",
         Some(Command::Infer) => "infer",
         Some(Command::Schemes(_)) => "schemes",
+        Some(Command::Run(..)) => "run",
         None => "?",
     }
 }

@@ -7,6 +7,7 @@ mod exported;
 pub mod answers;
 pub mod buffers;
 pub mod calls;
+pub mod dry_runs;
 pub mod numbers;
 pub mod pieces;
 pub mod programs;

@@ -2,7 +2,7 @@
 
 use crate::report;
 use crate::table::Table;
-use crate::typing::{self, Judgement};
+use crate::typing::{self, Judgement, NoTyping};
 
 /// What an inference returns.
 #[derive(Clone, Copy, Debug, PartialEq, Eq)]
@@ -15,6 +15,15 @@ pub struct Answer {
     pub length: u32,
 }
 
+/// Why a program is refused.
+#[derive(Clone, Copy, Debug, PartialEq, Eq)]
+pub struct Refusal {
+    /// The refusal's number.
+    pub number: u32,
+    /// The row that 21, 22 or 23 names, or the parameter that 24 names, otherwise 0.
+    pub row: u32,
+}
+
 impl Table {
     /// Writes the report into the buffer if the greatest typing meets every floor; refusals leave it unchanged.
     pub fn infer(&self, buffer: &mut [u8]) -> Answer {
@@ -22,19 +31,27 @@ impl Table {
         if buffer.len() < report::LONGEST_REPORT {
             return refused(11, 0);
         }
-        if !self.closed() {
-            return refused(10, 0);
-        }
-        let judgement = match typing::judge(self) {
+        let judgement = match self.accepted() {
             Err(refusal) => return refused(refusal.number, refusal.row),
             Ok(judgement) => judgement,
         };
-        if let Some(parameter) = self.missed_floors(&judgement).next() {
-            return refused(24, parameter as u32);
-        }
         let report = report::bytes(self.schemes(), &judgement);
         buffer[..report.len()].copy_from_slice(&report);
         Answer { number: 0, row: 0, length: report.len() as u32 }
+    }
+
+    /// What is reported of a program that infer accepts, or why it refuses the program.
+    pub fn accepted(&self) -> Result<Judgement, Refusal> {
+        if !self.closed() {
+            return Err(Refusal { number: 10, row: 0 });
+        }
+        let without_typing = |NoTyping { number, row }: NoTyping| Refusal { number, row };
+        let judgement = typing::judge(self).map_err(without_typing)?;
+        let missed = self.missed_floors(&judgement).next();
+        match missed {
+            Some(parameter) => Err(Refusal { number: 24, row: parameter as u32 }),
+            None => Ok(judgement),
+        }
     }
 
     /// The parameters whose word in this table's judgement is not at or above their floor, rising.

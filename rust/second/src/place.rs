@@ -84,7 +84,7 @@ fn entry_on(fresh: Table, text: &[u8], buffer: &mut [u8]) -> u32 {
 }
 
 /// The table after all lines are added to it, or the first refusal's number and line from 1.
-fn filled(mut table: Table, text: &[u8]) -> Result<Table, (u32, u32)> {
+pub(crate) fn filled(mut table: Table, text: &[u8]) -> Result<Table, (u32, u32)> {
     for (number, line) in (1..).zip(lines(text)) {
         let refusal = table.add(line);
         if refusal != 0 {

@@ -1,12 +1,14 @@
 //! A session: a script of commands, one a line, each answered at once.
 
+use crate::dry_run::{dry_run, Ending, Outcome};
+use crate::expression::Number;
 use crate::line;
 use crate::place::inferred;
 use crate::table::Table;
 use crate::text::lines;
 
 /// What a line of a script asks for.
-#[derive(Clone, Copy, Debug, PartialEq, Eq)]
+#[derive(Clone, Debug, PartialEq, Eq)]
 pub enum Command<'a> {
     /// Add this line.
     Add(&'a [u8]),
@@ -18,7 +20,12 @@ pub enum Command<'a> {
     Infer,
     /// Go on with a fresh table of the scheme file that has these lines, a blank standing for each line feed.
     Schemes(&'a [u8]),
+    /// Make a dry run with this budget on these numbers; of more than 65 numbers the first 65 stand here.
+    Run(u32, Vec<u32>),
 }
+
+/// How many numbers of a run are looked at: one more than there are parameters, so that no more can be a right count.
+const MOST_NUMBERS: usize = Table::PARAMETER_LIMIT + 1;
 
 impl Command<'_> {
     /// Reads a line given without its line feed; `None` if it is no command.
@@ -28,6 +35,9 @@ impl Command<'_> {
         }
         if let Some(lines) = line.strip_prefix(b"schemes ") {
             return Some(Command::Schemes(lines));
+        }
+        if let Some(numbers) = line.strip_prefix(b"run ") {
+            return run(numbers);
         }
         let words: Vec<&[u8]> = line.split(|&byte| byte == b' ').collect();
         match *words.as_slice() {
@@ -50,8 +60,17 @@ impl Command<'_> {
             Command::TakeBack => number_line(table.take_back()),
             Command::Infer => inferred(table),
             Command::Schemes(lines) => number_line(renew(table, &scheme_file(lines))),
+            Command::Run(budget, numbers) => outcome_line(table, &dry_run(table, &numbers, budget)),
         }
     }
+}
+
+/// Reads the budget and the numbers of a run; `None` if one that is looked at is no number.
+fn run(numbers: &[u8]) -> Option<Command<'_>> {
+    let words = numbers.split(|&byte| byte == b' ');
+    let mut read = words.take(1 + MOST_NUMBERS).map(line::number);
+    let budget = read.next()??;
+    Some(Command::Run(budget, read.collect::<Option<_>>()?))
 }
 
 /// The scheme file that a command names, with a line feed for each blank.
@@ -98,4 +117,17 @@ pub fn written(answers: &[u8], buffer: &mut [u8]) -> usize {
 /// The line that holds a number.
 fn number_line(number: u32) -> Vec<u8> {
     format!("{number}\n").into_bytes()
+}
+
+/// The line that tells how a run on a table ended.
+fn outcome_line(table: &Table, outcome: &Outcome) -> Vec<u8> {
+    let ending = match outcome.ending {
+        Ending::Number(Number { value, tag }) => {
+            format!("NUMBER,{value},{}", table.schemes().word(tag))
+        }
+        Ending::Function => "FUNCTION".to_string(),
+        Ending::Refused(number) => format!("NO,{number}"),
+        Ending::Stuck(stuck) => panic!("a run is stuck: {stuck:?}"),
+    };
+    format!("{ending},{},{}\n", outcome.applications, outcome.operations).into_bytes()
 }

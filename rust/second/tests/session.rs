@@ -12,7 +12,7 @@ const PROGRAM_A: [&str; 6] =
 const REPORT_A: &str = "OK,1,4 G,0,AH P,0,AH,INT E,0,AH,INT E,1,AH,INT E,2,AH,INT E,3,PLAIN,ARROW";
 
 /// Lines that are no commands, though most of them are near one.
-const NO_COMMANDS: [&[u8]; 75] = [
+const NO_COMMANDS: [&[u8]; 105] = [
     b"", b" ", b"\r", b"\0", b"?", b"0", b"help", b"# a comment", b"T,0,ANY", b"E,4,NUM,1", b"add",
     b"Add E,4,NUM,1", b"ADD E,4,NUM,1", b" add E,4,NUM,1", b"adds E,4,NUM,1", b"ad E,4,NUM,1",
     b"add,E,4,NUM,1", b"add\tE,4,NUM,1", b"add\r", b"add\0E,4,NUM,1", b"addE,4,NUM,1",
@@ -26,17 +26,25 @@ const NO_COMMANDS: [&[u8]; 75] = [
     b"take-back ", b" take-back", b"take-back\r", b"take back", b"takeback", b"Take-back",
     b"infer ", b" infer", b"infer\r", b"INFER", b"schemes", b"schemes\r", b"schemes\0",
     b"schemes\tS,A,00000", b"schemes,S,A,00000", b"schemesS,A,00000", b" schemes S,A,00000",
-    b"scheme S,A,00000", b"Schemes S,A,00000", b"SCHEMES S,A,00000", b"S,A,00000",
+    b"scheme S,A,00000", b"Schemes S,A,00000", b"SCHEMES S,A,00000", b"S,A,00000", b"run", b"run ",
+    b"run  ", b"run\r", b"run\0", b" run 9", b"run 9 ", b"run  9", b"run 9  21", b"run 9 21 ",
+    b"run 9 21\r", b"run 9\r", b"run 9\t21", b"run\t9 21", b"run,9,21", b"run 9,21", b"run 09 21",
+    b"run 9 021", b"run 9 00", b"run 9 -1", b"run 9 +1", b"run 9 1.0", b"run 9 AH", b"run x 21",
+    b"run -1", b"Run 9 21", b"RUN 9 21", b"run9 21", b"runs 9 21", b"run 9 21\0",
 ];
 
 /// Lines that would be commands if their numbers were not too large; cut to 32 or 64 bits some name parameter 0 or code 6.
-const NUMBERS_TOO_LARGE: [&[u8]; 6] = [
+const NUMBERS_TOO_LARGE: [&[u8]; 10] = [
     b"redeclare 4294967296 6",
     b"redeclare 0 4294967296",
     b"redeclare 0 4294967302",
     b"redeclare 18446744073709551616 6",
     b"redeclare 0 18446744073709551622",
     b"redeclare 0 100000000000000000000000000000000000000",
+    b"run 4294967296 21",
+    b"run 9 4294967296",
+    b"run 9 4294967317",
+    b"run 9 18446744073709551637",
 ];
 
 /// All lines above that are no commands.
@@ -694,4 +702,107 @@ fn the_entry_writes_where_there_is_room_for_all_answers() {
         assert_eq!(shown(&buffer), shown(&expected), "for a buffer of {length}");
     }
     assert_eq!(entry(b"", &mut []), 0);
+}
+
+#[test]
+fn a_run_prints_how_it_ended() {
+    assert_after(
+        &PROGRAM_A.join(" "),
+        &[
+            ("run 2 21", "NUMBER,42,AH,1,1"),
+            ("run 1 21", "NO,30,1,0"),
+            ("run 0 21", "NO,30,0,0"),
+            ("run 4294967295 21", "NUMBER,42,AH,1,1"),
+            ("run 9 2147483647", "NUMBER,4294967294,AH,1,1"),
+            ("run 9 2147483648", "NO,29,1,0"),
+            ("run 9 4294967295", "NO,29,1,0"),
+            ("run 9 0", "NUMBER,0,AH,1,1"),
+            ("run 9", "NO,28,0,0"),
+            ("run 9 21 21", "NO,28,0,0"),
+            // A run changes nothing, and what the other commands change is seen.
+            ("infer", REPORT_A),
+            ("redeclare 0 1", "0"),
+            ("run 9 21", "NUMBER,42,FHE,1,1"),
+            ("redeclare 0 0", "0"),
+            ("run 9 21", "NUMBER,42,PLAIN,1,1"),
+            ("redeclare 0 3", "0"),
+            ("run 9 21", "NO,28,0,0"),
+            ("redeclare 0 7", "0"),
+            ("take-back", "0"),
+            ("run 9 21", "NO,28,0,0"),
+            ("add E,3,LAM,0,2", "0"),
+            ("run 9 21", "NUMBER,42,AH,1,1"),
+        ],
+    );
+    assert_exchanges(&[
+        ("run 9", "NO,28,0,0"),
+        ("add E,0,NUM,7", "0"),
+        ("run 0", "NUMBER,7,RAND,0,0"),
+        ("run 0 7", "NO,28,0,0"),
+    ]);
+}
+
+#[test]
+fn a_run_can_end_with_a_function() {
+    assert_after(
+        "T,0,ANY T,1,ANY P,0,g0,0 P,1,g1,1 E,0,VAR,0 E,1,LAM,1,0 E,2,LAM,0,1 E,3,NUM,1 E,4,APP,2,3",
+        &[("run 1", "FUNCTION,1,0"), ("run 0", "NO,30,0,0"), ("run 1 1", "NO,28,0,0")],
+    );
+}
+
+#[test]
+fn a_run_has_the_words_of_the_file() {
+    assert_under(
+        "schemes S,BFV,11000 S,ORE,00111 S,GCM,00000 S,PAIL,10000 S,SIV,00100",
+        &PROGRAM_A.join(" "),
+        &[
+            ("run 9 21", "NUMBER,42,PAIL,1,1"),
+            ("redeclare 0 1", "0"),
+            ("run 9 21", "NUMBER,42,BFV,1,1"),
+            // The table is a fresh one then, and a refused file leaves it.
+            ("schemes S,R,00000", "0"),
+            ("run 9", "NO,28,0,0"),
+            ("add E,0,NUM,7", "0"),
+            ("schemes S,R,00001 S,Q,10000", "26"),
+            ("run 9", "NUMBER,7,R,0,0"),
+        ],
+    );
+}
+
+#[test]
+fn sixty_five_numbers_of_a_run_are_looked_at() {
+    let run = |count: usize, behind: &str| format!("run 100{}{behind}", " 1".repeat(count));
+    let answer = |line: &str| {
+        let mut script: Vec<u8> = b"add T,0,INT\nadd E,0,NUM,5\n".to_vec();
+        for own in 0..64 {
+            script.extend(format!("add P,{own},g0,0\nadd E,{},LAM,{own},{own}\n", own + 1).bytes());
+        }
+        let before = session(&script).len();
+        script.extend(format!("{line}\n").bytes());
+        shown(&session(&script)[before..])
+    };
+    assert_eq!(answer(&run(64, "")), "NUMBER,5,RAND,64,0\\n");
+    let wrong_count = "NO,28,0,0\\n";
+    for line in [run(0, ""), run(63, ""), run(65, ""), run(66, ""), run(1_000, "")] {
+        assert_eq!(answer(&line), wrong_count);
+    }
+    // What stands after the blank that follows the 65th number is not looked at.
+    for behind in [" ", "  ", " x", " 4294967296", " 01", " 1 x", " \r"] {
+        assert_eq!(answer(&run(65, behind)), wrong_count);
+        assert_eq!(answer(&run(64, behind)) == wrong_count, behind == " 1 x");
+    }
+    for behind in ["x", ",", "\r", "9999999999"] {
+        assert_eq!(answer(&run(65, behind)), "?\\n");
+        assert_eq!(answer(&run(64, behind)), "?\\n");
+    }
+    // With 64 numbers more than a blank must follow, and the next must be a number.
+    assert_eq!(answer(&run(64, " ")), "?\\n");
+}
+
+#[test]
+fn a_run_is_read() {
+    assert_eq!(Command::read(b"run 7"), Some(Command::Run(7, vec![])));
+    assert_eq!(Command::read(b"run 0 4294967295 0"), Some(Command::Run(0, vec![u32::MAX, 0])));
+    let many = format!("run 4294967295{}", " 3".repeat(80));
+    assert_eq!(Command::read(many.as_bytes()), Some(Command::Run(u32::MAX, vec![3; 65])));
 }

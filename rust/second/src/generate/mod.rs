@@ -1,10 +1,11 @@
-//! Reproducible random inputs for comparison tests: scheme files, programs, damaged lines and texts, calls.
+//! Reproducible random inputs for comparison tests: scheme files, programs, damaged lines and texts, calls, jobs.
 
 mod calls;
 mod chains;
 mod damage;
 mod floors;
 mod goals;
+mod jobs;
 mod letter_case;
 mod letter_damage;
 mod numbers;
@@ -30,6 +31,7 @@ pub use floors::{
     program_with_floors, program_with_floors_under, text_with_floors, text_with_floors_under,
     Floors,
 };
+pub use jobs::{Job, JobKind};
 pub use letter_case::{in_any_case, spellings, text_in_any_case, LetterCase};
 pub use letter_damage::LetterDamage;
 pub use numbers::{possible_words, NumberCounts, Partner, Place};
