@@ -19,6 +19,7 @@ use Rattle.model.specs.SchemeFile.{opened}
 use Rattle.model.specs.Closed.{Closed}
 use Rattle.model.specs.WellFormed.{WellFormed}
 use Rattle.model.specs.Typing.{Typable}
+use Rattle.model.specs.WellFormed.{WellFormed}
 use Rattle.model.specs.Strength.{whole}
 use Rattle.model.specs.Inference.{ruling, Slot, Shape, Refusal, GreatestTyping}
 use Rattle.model.specs.Report.{line, report}
@@ -30,6 +31,8 @@ use Rattle.model.specs.declared.Line.the-variants.{NoForm}
 use Rattle.model.proofs.Answers.{session-same}
 use Rattle.model.proofs.Files.{six-file}
 use Rattle.model.proofs.LongFiles.{opened-front}
+use Rattle.dryrun.specs.Run.{DryRuns}
+use Rattle.dryrun.specs.Run as Run
 use Rattle.conversation.proofs.Front.{reply-front}
 use Rattle.tokens.proofs.RoundTrip.{word-exactly}
 use Rattle.table.specs.Lists.{lists}
@@ -66,6 +69,7 @@ use Rattle.demands.proofs.Completion.{reports-typing, answered-reports}
 use Rattle.demands.proofs.Floors.{accepted-greatest, missed-greatest, above-floors, accepted-some, missed-every}
 use Rattle.demands.proofs.LeftOut.{unspelled-refused}
 use Rattle.demands.proofs.Scripts.{in-sessions, one-session, responds-same, spelled-makes, script-lines, script-list, list-converses}
+use Rattle.demands.proofs.LeadingLams.{numbers-front}
 use Rattle.demands.proofs.SchemeCommands.{file-converses}
 use Rattle.demands.proofs.EitherCase.{lines-alike, session-alike, prints-alike, returns-alike, other-tag, variable-letter}
 use Rattle.demands.proofs.ReportCapitals.{reported-capitals}
@@ -248,6 +252,10 @@ session-determined = responds-same
 -- A line's first 730 bytes decide its answer; the program `session` keeps no more of a line.
 pub session-front : {m after : Machine} {s w : List ℕ} → Replies m (take 730 s) w after → Replies m s w after
 session-front = reply-front
+
+-- Of a run the budget and 65 numbers are looked at; their answer is that of all its numbers.
+pub run-front : {m : Machine} {budget : ℕ} {o : Run.Outcome} → WellFormed m → (numbers : List ℕ) → DryRuns m (take 65 numbers) budget o → DryRuns m numbers budget o
+run-front {m} stands numbers runs = numbers-front m stands numbers runs
 
 -- Every list of calls is a script. The line for a call makes that call, and the script of a list has these lines.
 pub call-is-spelled : (call : Call) → Spelled call → Makes (commandOf (commandFor call)) call

@@ -13,6 +13,7 @@ pub mod Without
 pub mod LineFeed
 pub mod LeftOut
 pub mod Scripts
+pub mod LeadingLams
 pub mod SchemeCommands
 pub mod EitherCase
 pub mod ReportCapitals
