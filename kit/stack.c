@@ -1,7 +1,8 @@
 /*
- * Measures the stack that calls of the entries take, on a scheme file and tables. Each table named is given to placement_report, with the file
- * to placement_report_under, and the script that names the file's schemes, adds the table's lines and infers to placement_session, each in a
- * thread whose stack was painted before; what is no longer paint was used. Status 1 where a call took more than PLACEMENT_STACK_LENGTH.
+ * Measures the stack that calls of the entries take, on a scheme file and tables. Each table named is given to placement_report and, with as many
+ * numbers as it takes, to placement_run; with the file to placement_report_under and placement_run_under; and the script that names the file's
+ * schemes, adds the table's lines and infers to placement_session. Each call is made in a thread whose stack was painted before; what is no
+ * longer paint was used. Status 1 where a dry run took more than PLACEMENT_RUN_STACK_LENGTH, or another call more than PLACEMENT_STACK_LENGTH.
  */
 #include "placement.h"
 
@@ -25,6 +26,18 @@ static uint8_t text[PLACEMENT_TEXT_LENGTH];
 static size_t text_length;
 static uint8_t report[PLACEMENT_REPORT_LENGTH];
 
+/* A table has at most so many parameters. The numbers are zeros, as no stack depends on them. */
+#define PARAMETERS 64
+#define BUDGET 10000
+
+/* What the entries return where a count of numbers is wrong. */
+#define NO_RUN (1000u * PLACEMENT_NO_RUN)
+
+static const uint32_t numbers[PARAMETERS];
+static size_t numbers_length;
+static size_t numbers_length_under;
+static uint32_t answer[PLACEMENT_ANSWER_LENGTH];
+
 /* A text of line feeds alone has the longest script. A scheme file or an add is answered by at most two digits and a line feed. */
 static uint8_t script[sizeof SCHEMES + PLACEMENT_SCHEMES_LENGTH + PLACEMENT_TEXT_LENGTH * sizeof ADD + sizeof INFER];
 static size_t script_length;
@@ -34,6 +47,7 @@ static uint8_t answers[3 + PLACEMENT_TEXT_LENGTH * 3 + PLACEMENT_REPORT_LENGTH];
 struct measure {
     const char *name;
     void *(*call)(void *);
+    size_t limit;
     size_t most;
     const char *deepest;
 };
@@ -51,6 +65,22 @@ static void *call_report_under(void *unused) {
     (void)unused;
     void *begin = __builtin_frame_address(0);
     placement_report_under(schemes, schemes_length, text, text_length, report, sizeof report);
+    return begin;
+}
+
+/* The same for a dry run. */
+static void *call_run(void *unused) {
+    (void)unused;
+    void *begin = __builtin_frame_address(0);
+    placement_run(text, text_length, numbers, numbers_length, BUDGET, answer, PLACEMENT_ANSWER_LENGTH);
+    return begin;
+}
+
+/* The same for one under the scheme file. */
+static void *call_run_under(void *unused) {
+    (void)unused;
+    void *begin = __builtin_frame_address(0);
+    placement_run_under(schemes, schemes_length, text, text_length, numbers, numbers_length_under, BUDGET, answer, PLACEMENT_ANSWER_LENGTH);
     return begin;
 }
 
@@ -76,6 +106,20 @@ static void append_schemes(void) {
         append(&byte, 1);
     }
     append("\n", 1);
+}
+
+/* Finds out how many numbers the table takes, without the scheme file and with it; 0 where it takes none or does not run. */
+static void count_numbers(void) {
+    numbers_length = 0;
+    numbers_length_under = 0;
+    for (size_t count = PARAMETERS; count > 0; count--) {
+        if (placement_run(text, text_length, numbers, count, 0, answer, PLACEMENT_ANSWER_LENGTH) != NO_RUN) {
+            numbers_length = count;
+        }
+        if (placement_run_under(schemes, schemes_length, text, text_length, numbers, count, 0, answer, PLACEMENT_ANSWER_LENGTH) != NO_RUN) {
+            numbers_length_under = count;
+        }
+    }
 }
 
 /* Makes the script that names the schemes, adds the text's lines and infers. */
@@ -144,9 +188,11 @@ static int take(struct measure *measure, const char *path, uint8_t *stack) {
 
 int main(int count, char **arguments) {
     struct measure measures[] = {
-        {"placement_report", call_report, 0, "none"},
-        {"placement_report_under", call_report_under, 0, "none"},
-        {"placement_session", call_session, 0, "none"},
+        {"placement_report", call_report, PLACEMENT_STACK_LENGTH, 0, "none"},
+        {"placement_report_under", call_report_under, PLACEMENT_STACK_LENGTH, 0, "none"},
+        {"placement_run", call_run, PLACEMENT_RUN_STACK_LENGTH, 0, "none"},
+        {"placement_run_under", call_run_under, PLACEMENT_RUN_STACK_LENGTH, 0, "none"},
+        {"placement_session", call_session, PLACEMENT_STACK_LENGTH, 0, "none"},
     };
     size_t measures_count = sizeof measures / sizeof *measures;
     uint8_t *stack = mmap(NULL, ROOM, PROT_READ | PROT_WRITE, MAP_PRIVATE | MAP_ANONYMOUS, -1, 0);
@@ -163,6 +209,7 @@ int main(int count, char **arguments) {
         if (!read_front(arguments[i], text, sizeof text, &text_length)) {
             return 2;
         }
+        count_numbers();
         make_script();
         for (size_t k = 0; k < measures_count; k++) {
             if (!take(&measures[k], arguments[i], stack)) {
@@ -172,7 +219,7 @@ int main(int count, char **arguments) {
     }
     for (size_t k = 0; k < measures_count; k++) {
         printf("%s: at most %zu bytes of stack (%s)\n", measures[k].name, measures[k].most, measures[k].deepest);
-        within = within && measures[k].most <= PLACEMENT_STACK_LENGTH;
+        within = within && measures[k].most <= measures[k].limit;
     }
     return within ? 0 : 1;
 }
