@@ -31,13 +31,15 @@ extern "C" {
 #define PLACEMENT_SCHEMES_LENGTH 113
 
 /*
- * Stack to have free for a call, in bytes. Measured for placement_report and placement_report_under: 29,000 for ordinary tables, 58,000 for the
- * deepest types found; for placement_session on the same lines: 56,000 and 85,000. Nothing proves a bound; kit/test measures all calls anew and
- * holds them to this number.
+ * Stack to have free for a call of placement_report or placement_report_under, in bytes. Measured: 29,000 for ordinary tables, 58,000 for the
+ * deepest types found. Nothing proves a bound; kit/test measures all calls anew and holds them to this number and the next.
  */
 #define PLACEMENT_STACK_LENGTH 131072
 
-/* The same for placement_run and placement_run_under. Measured: 170,000 for ordinary tables, 199,000 for the deepest types found. */
+/*
+ * The same for placement_run, placement_run_under and placement_session, whose command run makes dry runs too. Measured for the first two:
+ * 170,000 for ordinary tables, 199,000 for the deepest types found.
+ */
 #define PLACEMENT_RUN_STACK_LENGTH 393216
 
 /* A run's answer has at least this many numbers. */
@@ -91,7 +93,7 @@ enum placement_refusal {
     PLACEMENT_SCHEME_FILE = 25,      /* not 1 to 8 lines, a line that is no S,NAME,BITS, or a repeated name or repeated digits */
     PLACEMENT_NO_MEET = 26,          /* no greatest scheme, or two schemes without a greatest lower bound */
     PLACEMENT_NO_HIGHEST = 27,       /* an operation that schemes support, and none of these is at or above all of them */
-    /* With 0, for a dry run: from placement_run and placement_run_under, with the steps that were made in the answer. */
+    /* With 0, for a dry run: from placement_run and placement_run_under, and in the answers to a script, with the steps that were made. */
     PLACEMENT_NO_RUN = 28,           /* wrong count of numbers, a function among the leading parameters, or a program that has no report */
     PLACEMENT_OVERFLOW = 29,         /* a result passes 4294967295 */
     PLACEMENT_OUT_OF_BUDGET = 30,    /* the budget's steps were made and the run is not over, or the next step stands too deep */
@@ -191,7 +193,7 @@ uint32_t placement_report_under(const uint8_t *schemes, size_t schemes_length, c
  *
  * The caller owes: pointers that are not null, also for length 0, and for numbers and answer aligned as uint32_t is; lengths that are true, for
  * numbers and answer in numbers and not in bytes; an answer that overlaps neither the text nor the numbers (these two may overlap each other);
- * nobody else who writes to any of the three during the call; and PLACEMENT_RUN_STACK_LENGTH bytes of free stack, more than the other calls need.
+ * nobody else who writes to any of the three during the call; and PLACEMENT_RUN_STACK_LENGTH bytes of free stack, more than a report needs.
  *
  * The call takes no memory but its stack and holds no state, so threads may call it at once, each with an answer of its own. It ends for every
  * text, after 10,000 steps at most.
@@ -228,6 +230,12 @@ uint32_t placement_run_under(const uint8_t *schemes, size_t schemes_length, cons
  *                      are an empty line, and no byte behind the first blank is an empty file: 25. Accepted, the table from then on
  *                      is a fresh one of that file's schemes, and what stood before is gone; refused, nothing is changed. The way
  *                      back to the six is their own file
+ *   run BUDGET NUMBER ...
+ *                      a dry run of the table as it stands, as placement_run makes it: NUMBER,number,tag,applications,operations with
+ *                      the word of the tag; FUNCTION,applications,operations; or NO,number,applications,operations for 28, 29 and
+ *                      30. One blank stands before each number; they are decimal, at most 4294967295 and without leading zeros, or
+ *                      the line is answered by ?. After 65 numbers behind the budget nothing is looked at, as no table takes so
+ *                      many. Nothing is changed
  *   any other line     ? and nothing is changed. Commands are in small letters
  *
  * Returns the length of all answers, at most SIZE_MAX. Where the buffer is long enough, they stand at its front, without a 0 at their end,
@@ -238,8 +246,8 @@ uint32_t placement_run_under(const uint8_t *schemes, size_t schemes_length, cons
  * six again.
  *
  * The caller owes what placement_report asks for: pointers that are not null, also for length 0; lengths that are true; no overlap; nobody
- * else who writes during the call; and PLACEMENT_STACK_LENGTH bytes of free stack. This call takes no other memory, holds no state and ends
- * for every script too, so threads may call it at once, each with a buffer of its own.
+ * else who writes during the call; and, as a script may run its table, PLACEMENT_RUN_STACK_LENGTH bytes of free stack. This call takes no other
+ * memory, holds no state and ends for every script too, so threads may call it at once, each with a buffer of its own.
  */
 size_t placement_session(const uint8_t *script, size_t script_length, uint8_t *answers, size_t answers_length);
 

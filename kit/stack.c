@@ -1,8 +1,8 @@
 /*
  * Measures the stack that calls of the entries take, on a scheme file and tables. Each table named is given to placement_report and, with as many
  * numbers as it takes, to placement_run; with the file to placement_report_under and placement_run_under; and the script that names the file's
- * schemes, adds the table's lines and infers to placement_session. Each call is made in a thread whose stack was painted before; what is no
- * longer paint was used. Status 1 where a dry run took more than PLACEMENT_RUN_STACK_LENGTH, or another call more than PLACEMENT_STACK_LENGTH.
+ * schemes, adds the table's lines, infers and runs to placement_session. Each call is made in a thread whose stack was painted before; what is no
+ * longer paint was used. Status 1 where a call took more than PLACEMENT_STACK_LENGTH, or PLACEMENT_RUN_STACK_LENGTH where it can run.
  */
 #include "placement.h"
 
@@ -19,6 +19,8 @@
 #define SCHEMES "schemes "
 #define ADD "add "
 #define INFER "infer\n"
+#define RUN "run 10000"
+#define ZERO " 0"
 
 static uint8_t schemes[PLACEMENT_SCHEMES_LENGTH];
 static size_t schemes_length;
@@ -38,10 +40,15 @@ static size_t numbers_length;
 static size_t numbers_length_under;
 static uint32_t answer[PLACEMENT_ANSWER_LENGTH];
 
-/* A text of line feeds alone has the longest script. A scheme file or an add is answered by at most two digits and a line feed. */
-static uint8_t script[sizeof SCHEMES + PLACEMENT_SCHEMES_LENGTH + PLACEMENT_TEXT_LENGTH * sizeof ADD + sizeof INFER];
+/*
+ * A text of line feeds alone has the longest script. A scheme file or an add is answered by at most two digits and a line feed, and a run by at
+ * most NUMBER, a number, a word of five letters and two counts of five digits.
+ */
+#define RUN_ANSWER (sizeof "NUMBER,4294967295,PLAIN,10000,10000")
+static uint8_t script[sizeof SCHEMES + PLACEMENT_SCHEMES_LENGTH + PLACEMENT_TEXT_LENGTH * sizeof ADD + sizeof INFER + sizeof RUN +
+                      PARAMETERS * sizeof ZERO];
 static size_t script_length;
-static uint8_t answers[3 + PLACEMENT_TEXT_LENGTH * 3 + PLACEMENT_REPORT_LENGTH];
+static uint8_t answers[3 + PLACEMENT_TEXT_LENGTH * 3 + PLACEMENT_REPORT_LENGTH + RUN_ANSWER];
 
 /* An entry whose calls are measured, and the call that took the most. */
 struct measure {
@@ -122,7 +129,7 @@ static void count_numbers(void) {
     }
 }
 
-/* Makes the script that names the schemes, adds the text's lines and infers. */
+/* Makes the script that names the schemes, adds the text's lines, infers and runs. */
 static void make_script(void) {
     size_t line = 0;
 
@@ -137,6 +144,11 @@ static void make_script(void) {
         line += length + 1;
     }
     append(INFER, sizeof INFER - 1);
+    append(RUN, sizeof RUN - 1);
+    for (size_t i = 0; i < numbers_length_under; i++) {
+        append(ZERO, sizeof ZERO - 1);
+    }
+    append("\n", 1);
 }
 
 /* The bytes of stack that a call takes, with the frame of the function that makes it; 0 where no thread could be made. */
@@ -192,7 +204,7 @@ int main(int count, char **arguments) {
         {"placement_report_under", call_report_under, PLACEMENT_STACK_LENGTH, 0, "none"},
         {"placement_run", call_run, PLACEMENT_RUN_STACK_LENGTH, 0, "none"},
         {"placement_run_under", call_run_under, PLACEMENT_RUN_STACK_LENGTH, 0, "none"},
-        {"placement_session", call_session, PLACEMENT_STACK_LENGTH, 0, "none"},
+        {"placement_session", call_session, PLACEMENT_RUN_STACK_LENGTH, 0, "none"},
     };
     size_t measures_count = sizeof measures / sizeof *measures;
     uint8_t *stack = mmap(NULL, ROOM, PROT_READ | PROT_WRITE, MAP_PRIVATE | MAP_ANONYMOUS, -1, 0);

@@ -116,10 +116,10 @@ fn reported(entry: impl FnOnce(&mut [u8]) -> u32) -> Result<Report, Refusal> {
 }
 
 /// Answers the commands of a script in turn, from a fresh table of the built-in six schemes on: `add LINE`, `redeclare P CODE`, `take-back`,
-/// `infer` and `schemes LINES`, one a line.
+/// `infer`, `schemes LINES` and `run BUDGET NUMBER ...`, one a line.
 ///
 /// Commands are in small letters; the words of an added line may be in either case. An infer is answered by the report or `NO,number,row`
-/// (`NO,24,parameter`), the other four by their number, 0 or a refusal's, and any other line by `?`; each answer ends in a line feed.
+/// (`NO,24,parameter`), a run by one line, as [`Outcome`] is shown, or by `NO,number,applications,operations`, the other four by their number, 0 or a refusal's, and any other line by `?`; each answer ends in a line feed.
 /// kit/placement.h says more of each.
 ///
 /// The lines of `schemes LINES` are those of a scheme file, with a blank in the place of each line feed. Where the file is accepted, the table
