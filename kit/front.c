@@ -1,6 +1,6 @@
 /*
- * Calls placement_report and placement_report_under on texts whose bytes after the first PLACEMENT_TEXT_LENGTH lie in a page that cannot be read.
- * Status 1 where such a text is not answered as its front is; a call that looks further ends by a signal.
+ * Calls the four entries that take a text on texts whose bytes after the first PLACEMENT_TEXT_LENGTH lie in a page that cannot be read. Status 1
+ * where such a text is not answered as its front is; a call that looks further ends by a signal.
  */
 #include "placement.h"
 
@@ -16,6 +16,8 @@ static const uint8_t bytes[] = {0, 'E', '\n'};
 
 static const uint8_t schemes[] = {'S', ',', 'A', ',', '1', '1', '1', '1', '1'};
 static uint8_t report[PLACEMENT_REPORT_LENGTH];
+static const uint32_t numbers[1];
+static uint32_t answer[PLACEMENT_ANSWER_LENGTH];
 
 /* The front of a text, which ends where an unreadable page begins; NULL where there is no memory. */
 static uint8_t *guarded_front(size_t page) {
@@ -29,21 +31,36 @@ static uint8_t *guarded_front(size_t page) {
     return start + readable - PLACEMENT_TEXT_LENGTH;
 }
 
+/* Asks the four entries, and returns whether each answers as expected. */
+static int answered(const uint8_t *text, size_t length) {
+    uint32_t results[] = {
+        placement_report(text, length, report, sizeof report),
+        placement_report_under(schemes, sizeof schemes, text, length, report, sizeof report),
+        placement_run(text, length, numbers, 1, 10000, answer, PLACEMENT_ANSWER_LENGTH),
+        placement_run_under(schemes, sizeof schemes, text, length, numbers, 1, 10000, answer, PLACEMENT_ANSWER_LENGTH),
+    };
+    int good = 1;
+
+    for (size_t i = 0; i < sizeof results / sizeof *results; i++) {
+        if (results[i] != EXPECTED) {
+            fprintf(stderr, "bytes of %u: %u from entry %zu\n", text[0], results[i], i);
+            good = 0;
+        }
+    }
+    return good;
+}
+
 int main(void) {
     size_t page = (size_t)sysconf(_SC_PAGESIZE);
     uint8_t *text = guarded_front(page);
+    int good = 1;
 
     if (text == NULL) {
         return 2;
     }
     for (size_t i = 0; i < sizeof bytes; i++) {
         memset(text, bytes[i], PLACEMENT_TEXT_LENGTH);
-        uint32_t result = placement_report(text, PLACEMENT_TEXT_LENGTH + page, report, sizeof report);
-        uint32_t under = placement_report_under(schemes, sizeof schemes, text, PLACEMENT_TEXT_LENGTH + page, report, sizeof report);
-        if (result != EXPECTED || under != EXPECTED) {
-            fprintf(stderr, "bytes of %u: %u, and under a scheme file %u\n", bytes[i], result, under);
-            return 1;
-        }
+        good = answered(text, PLACEMENT_TEXT_LENGTH + page) && good;
     }
-    return 0;
+    return good ? 0 : 1;
 }

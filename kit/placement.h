@@ -1,6 +1,6 @@
 /*
  * placement, for a key loader in C or C++: a whole table in, its report or a refusal out, under the built-in six schemes or under a
- * scheme file of the owner's; or a script of commands in, the answers out.
+ * scheme file of the owner's; or a script of commands in, the answers out. For testers: a table and numbers in, the result of a dry run out.
  *
  * Link with libplacement.a, which `rt staticlib placement` writes to target/staticlib. The archive is for x86-64 Linux and needs nothing
  * else but memcpy and memset of the C library. docs/NUMBERS.md has an example and a fix for every refusal.
@@ -31,17 +31,40 @@ extern "C" {
 #define PLACEMENT_SCHEMES_LENGTH 113
 
 /*
- * Stack to have free for a call, in bytes. Measured for placement_report and placement_report_under: 28,000 for ordinary tables, 57,000 for the
- * deepest types found; for placement_session on the same lines: 50,000 and 79,000. Nothing proves a bound; kit/test measures all three anew and
- * holds them to this number.
+ * Stack to have free for a call of placement_report or placement_report_under, in bytes. Measured: 29,000 for ordinary tables, 58,000 for the
+ * deepest types found. Nothing proves a bound; kit/test measures all calls anew and holds them to this number and the next.
  */
 #define PLACEMENT_STACK_LENGTH 131072
+
+/*
+ * The same for placement_run, placement_run_under and placement_session, whose command run makes dry runs too. Measured for the first two:
+ * 170,000 for ordinary tables, 199,000 for the deepest types found.
+ */
+#define PLACEMENT_RUN_STACK_LENGTH 393216
+
+/* A run's answer has at least this many numbers. */
+#define PLACEMENT_ANSWER_LENGTH 4
 
 /*
  * What placement_report and placement_report_under return: from here on this number plus the report's length; below it 1,000 times a refusal's
  * number plus its line, row or parameter.
  */
 #define PLACEMENT_ACCEPTED 100000u
+
+/*
+ * What placement_run and placement_run_under return for a run that came to its end, with a number or with a function. A refusal is below both:
+ * 1,000 times its number, plus the line where a line is refused.
+ */
+#define PLACEMENT_RAN_TO_NUMBER 100000u
+#define PLACEMENT_RAN_TO_FUNCTION 100001u
+
+/* The places of a run's answer. */
+enum placement_answer {
+    PLACEMENT_ANSWER_NUMBER = 0,       /* the number that the run ended with, else 0 */
+    PLACEMENT_ANSWER_TAG = 1,          /* the code of its scheme, else 0. 0 is PLAIN, which is no tag */
+    PLACEMENT_ANSWER_APPLICATIONS = 2, /* the applications that were made */
+    PLACEMENT_ANSWER_OPERATIONS = 3    /* the operations that were made */
+};
 
 /* The refusals' numbers. */
 enum placement_refusal {
@@ -56,7 +79,7 @@ enum placement_refusal {
     PLACEMENT_PARAMETER_BOUND = 8,   /* LAM of a parameter already bound */
     /* With 0. */
     PLACEMENT_NOT_CLOSED = 10,       /* the rows are not one closed program */
-    PLACEMENT_SHORT_BUFFER = 11,     /* report buffer shorter than PLACEMENT_REPORT_LENGTH */
+    PLACEMENT_SHORT_BUFFER = 11,     /* report buffer shorter than PLACEMENT_REPORT_LENGTH, or answer than PLACEMENT_ANSWER_LENGTH */
     /* With the term row's number, counted from 0: the least one that leaves no typing. */
     PLACEMENT_NO_SHAPES = 21,        /* no typing, even when qualifiers are ignored */
     PLACEMENT_NO_QUALIFIERS = 22,    /* no typing, even when "at or below" is dropped */
@@ -66,10 +89,14 @@ enum placement_refusal {
      * meets every floor. Lower the floor, or change what the program does with that input.
      */
     PLACEMENT_BELOW_FLOOR = 24,      /* a parameter's greatest scheme is not at or above its floor */
-    /* With 0, for a scheme file: from placement_report_under, and in the answers to a script. The first of the three that applies. */
+    /* With 0, for a scheme file: from the two entries that take one, and in the answers to a script. The first of the three that applies. */
     PLACEMENT_SCHEME_FILE = 25,      /* not 1 to 8 lines, a line that is no S,NAME,BITS, or a repeated name or repeated digits */
     PLACEMENT_NO_MEET = 26,          /* no greatest scheme, or two schemes without a greatest lower bound */
     PLACEMENT_NO_HIGHEST = 27,       /* an operation that schemes support, and none of these is at or above all of them */
+    /* With 0, for a dry run: from placement_run and placement_run_under, and in the answers to a script, with the steps that were made. */
+    PLACEMENT_NO_RUN = 28,           /* wrong count of numbers, a function among the leading parameters, or a program that has no report */
+    PLACEMENT_OVERFLOW = 29,         /* a result passes 4294967295 */
+    PLACEMENT_OUT_OF_BUDGET = 30,    /* the budget's steps were made and the run is not over, or the next step stands too deep */
     /* In the answers to a script only. */
     PLACEMENT_NO_TERM_ROW = 9,       /* take-back with no term row */
     PLACEMENT_NO_CODE = 12           /* redeclare with a code above the last variable's, which is 70 under the built-in six */
@@ -141,6 +168,52 @@ uint32_t placement_report_under(const uint8_t *schemes, size_t schemes_length, c
                                 size_t report_length);
 
 /*
+ * Makes a dry run of a job, without keys: reads the lines of a table and applies the leading LAMs of its last row to numbers, the outermost to
+ * the first, under the built-in six schemes.
+ *
+ * Each number has its parameter's scheme in the report as its tag, and each literal its row's. A function and its argument are worked out before
+ * the call, an operation's left side before its right, and nothing is worked out inside a LAM that waits for its argument. ADD and MUL keep the
+ * tag of their operands; EQ, LT and GT give 1 where they hold and else 0, without a tag. One application or one operation is a step, and the
+ * budget says how many steps may be made. One above 10,000 counts as 10,000.
+ *
+ * Returns PLACEMENT_RAN_TO_NUMBER or PLACEMENT_RAN_TO_FUNCTION where the run came to its end; or it refuses with
+ *
+ *   28,000   where the count of numbers is not that of the leading LAMs, where the report has the shape ARROW for one of their parameters, and
+ *            where placement_report would refuse the program, with 10 or 21 to 24. No step is made
+ *   29,000   where the result of the next operation passes 4294967295. That operation is not counted
+ *   30,000   where the budget's steps were made and the run is not over, or where more than 4,096 reduction contexts stand around the next
+ *            step: applications and operations that wait for what is worked out inside them. Looked at before each step, and before 29
+ *
+ * With each of these five the front of the answer is written, as enum placement_answer has it, and the numbers beyond it are as they were. The
+ * codes of tags are those of a redeclare: 0 to 6 are PLAIN, FHE, OP, DET, MH, AH and RAND. All else leaves the whole answer as it was: 11,000 for
+ * an answer shorter than PLACEMENT_ANSWER_LENGTH, before the text is looked at, and what placement_report returns for a refused line.
+ *
+ * text, numbers: any bytes and any numbers, of any length. They are read and never changed.
+ * answer: the caller's array. Nothing of it, of the text or of the numbers is kept after the call.
+ *
+ * The caller owes: pointers that are not null, also for length 0, and for numbers and answer aligned as uint32_t is; lengths that are true, for
+ * numbers and answer in numbers and not in bytes; an answer that overlaps neither the text nor the numbers (these two may overlap each other);
+ * nobody else who writes to any of the three during the call; and PLACEMENT_RUN_STACK_LENGTH bytes of free stack, more than a report needs.
+ *
+ * The call takes no memory but its stack and holds no state, so threads may call it at once, each with an answer of its own. It ends for every
+ * text, after 10,000 steps at most.
+ */
+uint32_t placement_run(const uint8_t *text, size_t text_length, const uint32_t *numbers, size_t numbers_length, uint32_t budget,
+                       uint32_t *answer, size_t answer_length);
+
+/*
+ * The same under a scheme file, as placement_report_under takes it. The tag of a number is 0 for PLAIN, or the place of its scheme in the file,
+ * counted from 1.
+ *
+ * Returns what placement_run returns, or 25,000, 26,000 or 27,000 for a refused file, with the whole answer as it was. A short answer is refused
+ * before the file is looked at, and the file before the text is.
+ *
+ * The caller owes what placement_run asks for, of the file as of the text.
+ */
+uint32_t placement_run_under(const uint8_t *schemes, size_t schemes_length, const uint8_t *text, size_t text_length, const uint32_t *numbers,
+                             size_t numbers_length, uint32_t budget, uint32_t *answer, size_t answer_length);
+
+/*
  * Answers the commands of a script in turn, from a fresh table of the built-in six schemes on.
  *
  * A script has one command a line; a last line without a line feed counts if it is not empty. Each line is answered by one or more lines:
@@ -157,6 +230,12 @@ uint32_t placement_report_under(const uint8_t *schemes, size_t schemes_length, c
  *                      are an empty line, and no byte behind the first blank is an empty file: 25. Accepted, the table from then on
  *                      is a fresh one of that file's schemes, and what stood before is gone; refused, nothing is changed. The way
  *                      back to the six is their own file
+ *   run BUDGET NUMBER ...
+ *                      a dry run of the table as it stands, as placement_run makes it: NUMBER,number,tag,applications,operations with
+ *                      the word of the tag; FUNCTION,applications,operations; or NO,number,applications,operations for 28, 29 and
+ *                      30. One blank stands before each number; they are decimal, at most 4294967295 and without leading zeros, or
+ *                      the line is answered by ?. After 65 numbers behind the budget nothing is looked at, as no table takes so
+ *                      many. Nothing is changed
  *   any other line     ? and nothing is changed. Commands are in small letters
  *
  * Returns the length of all answers, at most SIZE_MAX. Where the buffer is long enough, they stand at its front, without a 0 at their end,
@@ -167,27 +246,27 @@ uint32_t placement_report_under(const uint8_t *schemes, size_t schemes_length, c
  * six again.
  *
  * The caller owes what placement_report asks for: pointers that are not null, also for length 0; lengths that are true; no overlap; nobody
- * else who writes during the call; and PLACEMENT_STACK_LENGTH bytes of free stack. This call takes no other memory, holds no state and ends
- * for every script too, so threads may call it at once, each with a buffer of its own.
+ * else who writes during the call; and, as a script may run its table, PLACEMENT_RUN_STACK_LENGTH bytes of free stack. This call takes no other
+ * memory, holds no state and ends for every script too, so threads may call it at once, each with a buffer of its own.
  */
 size_t placement_session(const uint8_t *script, size_t script_length, uint8_t *answers, size_t answers_length);
 
-/* Whether a result stands for a report. */
+/* Whether a result stands for a report, or for a run that came to its end. */
 static inline int placement_accepted(uint32_t result) {
     return result >= PLACEMENT_ACCEPTED;
 }
 
-/* The report's length; 0 for a refusal. */
+/* The report's length; 0 for a refusal. Not for what a run returns. */
 static inline size_t placement_length(uint32_t result) {
     return placement_accepted(result) ? (size_t)(result - PLACEMENT_ACCEPTED) : 0;
 }
 
-/* The refusal's number, one of enum placement_refusal; 0 for a report. */
+/* The refusal's number, one of enum placement_refusal; 0 for a report and for a run that came to its end. */
 static inline unsigned placement_number(uint32_t result) {
     return placement_accepted(result) ? 0 : (unsigned)(result / 1000);
 }
 
-/* The refusal's line, row or parameter; 0 for a report. */
+/* The refusal's line, row or parameter; 0 for a report and for a run that came to its end. */
 static inline unsigned placement_place(uint32_t result) {
     return placement_accepted(result) ? 0 : (unsigned)(result % 1000);
 }

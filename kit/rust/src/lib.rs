@@ -1,5 +1,6 @@
 //! Under which encryption scheme each input of a job leaves its owner's house: a table in, a report or a refusal out, under the built-in
-//! six schemes or under a scheme file of the owner's; or a script of commands in, the answers out.
+//! six schemes or under a scheme file of the owner's; or a script of commands in, the answers out. For testers: a table and numbers in, the
+//! result of a dry run out.
 //!
 //! The work is done by a proved library, which is linked as an archive. This crate only lends it buffers and takes its answers apart.
 //!
@@ -15,6 +16,9 @@
 //! let report = placement::report_under(b"S,SEAL,00000\nS,SUM,10000\n", b"E,0,ENC,SUM,5\n").unwrap();
 //! assert_eq!(report.as_bytes(), b"OK,0,1\nE,0,SUM,INT\n");
 //!
+//! let outcome = placement::run(b"E,0,ENC,AH,5\nE,1,NUM,7\nE,2,OP,ADD,0,1\n", &[], 10_000).unwrap();
+//! assert_eq!(outcome.to_string(), "NUMBER,12,AH,0,1");
+//!
 //! let answers = placement::session(b"add E,0,ENC,AH,5\ninfer\ntake-back\ninfer\n");
 //! assert_eq!(answers, b"0\nOK,0,1\nE,0,AH,INT\n0\nNO,10,0\n");
 //! ```
@@ -24,8 +28,10 @@
 
 mod entry;
 mod refusal;
+mod run;
 
 pub use refusal::{Place, Refusal};
+pub use run::{run, run_under, Answer, Outcome, Steps};
 
 use std::fmt;
 
@@ -110,10 +116,10 @@ fn reported(entry: impl FnOnce(&mut [u8]) -> u32) -> Result<Report, Refusal> {
 }
 
 /// Answers the commands of a script in turn, from a fresh table of the built-in six schemes on: `add LINE`, `redeclare P CODE`, `take-back`,
-/// `infer` and `schemes LINES`, one a line.
+/// `infer`, `schemes LINES` and `run BUDGET NUMBER ...`, one a line.
 ///
 /// Commands are in small letters; the words of an added line may be in either case. An infer is answered by the report or `NO,number,row`
-/// (`NO,24,parameter`), the other four by their number, 0 or a refusal's, and any other line by `?`; each answer ends in a line feed.
+/// (`NO,24,parameter`), a run by one line, as [`Outcome`] is shown, or by `NO,number,applications,operations`, the other four by their number, 0 or a refusal's, and any other line by `?`; each answer ends in a line feed.
 /// kit/placement.h says more of each.
 ///
 /// The lines of `schemes LINES` are those of a scheme file, with a blank in the place of each line feed. Where the file is accepted, the table

@@ -1,15 +1,16 @@
 //! Refusals, and how the entry packs them into one number.
 
+use crate::run::Steps;
 use std::error::Error;
 use std::fmt;
 
 /// What the entry adds to a report's length.
 const ACCEPTED: u32 = 100_000;
 
-/// Why a table has no report, or a scheme file no table; docs/NUMBERS.md has an example and a fix for each number.
+/// Why a table has no report, a scheme file no table, or a dry run no answer; docs/NUMBERS.md has an example and a fix for each number.
 #[derive(Clone, Copy, Debug, PartialEq, Eq)]
 pub struct Refusal {
-    /// 1 to 8 for a line, 10 or 11 for the whole, 21 to 23 for a row, 24 for a parameter, 25 to 27 for a scheme file.
+    /// 1 to 8 for a line, 10 or 11 for the whole, 21 to 23 for a row, 24 for a parameter, 25 to 27 for a scheme file, 28 to 30 for a dry run.
     pub number: u32,
     /// Where the refusal stands.
     pub place: Place,
@@ -27,6 +28,8 @@ pub enum Place {
     Parameter(u32),
     /// The table as a whole, the buffer, or the scheme file.
     Whole,
+    /// A dry run, after the steps that it made.
+    Run(Steps),
 }
 
 /// The report's length, or the refusal, that the entry's answer stands for.
@@ -34,6 +37,11 @@ pub fn taken_apart(answer: u32) -> Result<usize, Refusal> {
     if answer >= ACCEPTED {
         return Ok((answer - ACCEPTED) as usize);
     }
+    Err(refusal(answer))
+}
+
+/// The refusal that an answer below those for accepted tables stands for.
+pub fn refusal(answer: u32) -> Refusal {
     let (number, place) = (answer / 1_000, answer % 1_000);
     let place = match number {
         1..=8 => Place::Line(place),
@@ -41,7 +49,7 @@ pub fn taken_apart(answer: u32) -> Result<usize, Refusal> {
         24 => Place::Parameter(place),
         _ => Place::Whole,
     };
-    Err(Refusal { number, place })
+    Refusal { number, place }
 }
 
 impl Refusal {
@@ -83,6 +91,19 @@ impl Refusal {
                 "an operation has supporters in the scheme file, but no highest one: \
                  add a scheme that supports exactly what all its supporters have in common, and check the file again"
             }
+            28 => {
+                "the count of numbers is not that of the leading parameters, \
+                 one of these is a function, or the table has no report"
+            }
+            29 => {
+                "a result passes 4294967295: \
+                 run the job on smaller numbers, or change the operation that comes next"
+            }
+            30 => {
+                "the budget's steps were made and the run is not over, \
+                 or more than 4,096 reduction contexts stand around the next step: \
+                 give a greater budget, up to 10,000, or run a shorter job"
+            }
             _ => "unknown number",
         }
     }
@@ -95,6 +116,7 @@ impl fmt::Display for Refusal {
             Place::Line(line) => write!(f, " at line {line}")?,
             Place::Row(row) => write!(f, " at row E,{row}")?,
             Place::Parameter(parameter) => write!(f, " at parameter P,{parameter}")?,
+            Place::Run(steps) => write!(f, " after {steps}")?,
             Place::Whole => {}
         }
         write!(f, ": {}", self.meaning())

@@ -6,6 +6,7 @@ use crate::{report, session, Place, Refusal};
 use std::thread;
 
 mod letters;
+mod runs;
 mod schemes;
 
 const PROGRAM_A: &[u8] = b"T,0,ANY\nP,0,g0,0\nE,0,VAR,0\nE,1,VAR,0\nE,2,OP,ADD,0,1\nE,3,LAM,0,2\n";
@@ -149,7 +150,7 @@ fn answers_are_taken_apart() {
 
 #[test]
 fn every_number_of_the_entry_has_words() {
-    for number in (1..=8).chain([10, 11]).chain(21..=27) {
+    for number in (1..=8).chain([10, 11]).chain(21..=30) {
         let found = taken_apart(number * 1_000).unwrap_err();
         assert_ne!(found.meaning(), "unknown number", "for {number}");
     }
