@@ -84,27 +84,34 @@ module _ (t : Table) (s buffer : List ℕ) (ready : Ready t) (c : Command) (read
           fits = front .fits;
         }
 
-  pub infer-replied : (before : List ℕ) (size : ℕ) → 6280 ≤ length before → c ≡ Infer → Printed (lists t) before buffer size → Replied (lists t) s buffer (turn t size)
-  unfolding said
-  infer-replied before size long e printed = replied t size ready (makes-as Infer e (Makes.infers long)) (Session.infers (printed .infers)) (printed .front)
+  -- A turn that leaves the table.
+  module _ (size : ℕ) (r : Turn) (left : r ≡ turn t size) where
+    stays : Replied (lists t) s buffer (turn t size) → Replied (lists t) s buffer r
+    stays told = subst (Replied (lists t) s buffer) (sym left) told
 
-  pub run-replied : (size : ℕ) → c ≡ Run → Told (lists t) (runOf (take (length s - 4) (drop 4 s))) buffer size → Replied (lists t) s buffer (turn t size)
-  unfolding said
-  run-replied size e told =
-      record {
-        replies = told .replies s (sym reads ∙ ap (λ (x : Command). said x s) e ∙ ap runOf (sym (rest-is 4 s)));
-        ready = ready;
-        fits = told .fits;
-      }
+    pub infer-replied : (before : List ℕ) → 6280 ≤ length before → c ≡ Infer → Printed (lists t) before buffer size → Replied (lists t) s buffer r
+    unfolding said
+    infer-replied before long e printed = stays (replied t size ready (makes-as Infer e (Makes.infers long)) (Session.infers (printed .infers)) (printed .front))
 
-  pub unknown-replied : (size : ℕ) → c ≡ Nothing → Front unknown buffer size → Replied (lists t) s buffer (turn t size)
-  unfolding said
-  unknown-replied size e front =
-      record {
-        replies = subst (λ (text : List ℕ). Replies (lists t) s text (lists t)) (sym (front .bytes)) (Replies.passes (sym reads ∙ ap (λ (x : Command). said x s) e));
-        ready = ready;
-        fits = front .fits;
-      }
+    pub run-replied : c ≡ Run → Told (lists t) (runOf (take (length s - 4) (drop 4 s))) buffer size → Replied (lists t) s buffer r
+    unfolding said
+    run-replied e told =
+        stays
+        (record {
+          replies = told .replies s (sym reads ∙ ap (λ (x : Command). said x s) e ∙ ap runOf (sym (rest-is 4 s)));
+          ready = ready;
+          fits = told .fits;
+        })
+
+    pub unknown-replied : c ≡ Nothing → Front unknown buffer size → Replied (lists t) s buffer r
+    unfolding said
+    unknown-replied e front =
+        stays
+        (record {
+          replies = subst (λ (text : List ℕ). Replies (lists t) s text (lists t)) (sym (front .bytes)) (Replies.passes (sym reads ∙ ap (λ (x : Command). said x s) e));
+          ready = ready;
+          fits = front .fits;
+        })
 
 -- No number is above 27.
 module _ (t : Table) (r : Answered) where

@@ -60,25 +60,23 @@ pub fn answer(layer: Layer, table: Table, line: &[u8], buffer: &mut [u8]) -> Tur
             let size = write_number(taken.number, buffer);
             Turn { table: after, size }
         }
-        Command::Infer => {
-            let size = inference::print(table, buffer);
-            Turn { table, size }
-        }
+        Command::Infer => unchanged(table, inference::print(table, buffer)),
         Command::Schemes => {
             let restarted = calls::restart(table, &line[8..]);
             let after = restarted.table;
             let size = write_number(restarted.number, buffer);
             Turn { table: after, size }
         }
-        Command::Run => {
-            let size = write_run(table, &line[4..], buffer);
-            Turn { table, size }
-        }
-        Command::Nothing => {
-            let size = write_unknown(buffer);
-            Turn { table, size }
-        }
+        Command::Run => unchanged(table, write_run(table, &line[4..], buffer)),
+        Command::Nothing => unchanged(table, write_unknown(buffer)),
     }
+}
+
+// The turn of a command that leaves the table as it is.
+fn unchanged(table: Table, size: usize) -> Turn
+    ensures { λ r. ⌜ r ≡ record { table = table; size = size } ⌝ }
+{
+    Turn { table, size }
 }
 
 // Writes the line of a number, which is never above 27.

@@ -56,6 +56,9 @@ enum-told-3 c = search needs
 print-requires : tie.Need-print-requires
 print-requires c κs = search needs
 
+unchanged-requires : tie.Need-unchanged-requires
+unchanged-requires c κs = search needs
+
 enum-told-4 : tie.Need-enum-told-4
 enum-told-4 c = search needs
 
@@ -89,11 +92,17 @@ part-write-run-end c = search needs
 write-run-requires : tie.Need-write-run-requires
 write-run-requires c κs = search needs
 
+unchanged-requires-2 : tie.Need-unchanged-requires-2
+unchanged-requires-2 c κs = search needs
+
 enum-told-6 : tie.Need-enum-told-6
 enum-told-6 c = search needs
 
 write-unknown-requires : tie.Need-write-unknown-requires
 write-unknown-requires c κs = search needs
+
+unchanged-requires-3 : tie.Need-unchanged-requires-3
+unchanged-requires-3 c κs = search needs
 
 same-length : tie.Need-same-length
 same-length c = search needs
@@ -158,6 +167,7 @@ answer-spec =
     write-number-requires-3
     enum-told-3
     print-requires
+    unchanged-requires
     enum-told-4
     sub-restart
     part-restart-start
@@ -169,8 +179,10 @@ answer-spec =
     part-write-run-start
     part-write-run-end
     write-run-requires
+    unchanged-requires-2
     enum-told-6
     write-unknown-requires
+    unchanged-requires-3
     same-length
     returns
     same-length-2
