@@ -43,6 +43,6 @@ over-at-once : Runs (Tagged six) 0 (number 7 0) nothingMade (record { refusal = 
 over-at-once = ends-number
 
 -- A copy of a function inside itself keeps its own parameter.
-keeps-own : substituted 0 (number 1 0) (apply (variable 0) (function 0 (variable 0))) ≡ apply (number 1 0) (function 0 (variable 0))
+pub keeps-own : substituted 0 (number 1 0) (apply (variable 0) (function 0 (variable 0))) ≡ apply (number 1 0) (function 0 (variable 0))
 unfolding substituted
 keeps-own = refl

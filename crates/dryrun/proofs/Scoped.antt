@@ -107,7 +107,7 @@ module _ (m : Machine) (w : WellFormed m) where
       unfolding applied
       applied-none-free e [] numbers none = none
       applied-none-free e (p ∷ ps) [] none = none
-      applied-none-free e (p ∷ ps) (n ∷ numbers) none = applied-none-free (apply e (number n (word (param p)))) ps numbers (λ q. both-false (free q e) false (none q) refl)
+      applied-none-free e (p ∷ ps) (n ∷ numbers) none = applied-none-free _ ps numbers (λ q. both-false (free q e) false (none q) refl)
 
       pub job-none-free : (numbers : List ℕ) → NoneFree (job m word numbers)
       job-none-free numbers = applied-none-free (unfolded m word (length (m .terms)) (lastRow m)) (leading m) numbers last-none-free

@@ -14,7 +14,10 @@ pub mod operations;
 // A cell for each application that the largest budget allows.
 pub const CELLS: usize = 10000;
 
-// A frame for each context that may stand around a step, and one for what the step itself is made of.
+// The contexts that may stand around a step.
+const CONTEXTS: usize = 4096;
+
+// A frame for each of them, and one for what the step itself is made of.
 pub const FRAMES: usize = 4097;
 
 // The tag of what is a function.
@@ -129,7 +132,7 @@ pub fn turn_row(
         }
         Term::App(f, a) => {
             let at = p.depth as usize;
-            if at > 4096 {
+            if at > CONTEXTS {
                 return Turn::Stop(30);
             }
             frame(kind, tag, value, place, at, ARGUMENT, 0, a as u32, p.place);
@@ -137,7 +140,7 @@ pub fn turn_row(
         }
         Term::Op(o, l, r) => {
             let at = p.depth as usize;
-            if at > 4096 {
+            if at > CONTEXTS {
                 return Turn::Stop(30);
             }
             if o > 4 {

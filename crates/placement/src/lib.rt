@@ -74,11 +74,11 @@ pub extern "C" fn placement_run_under(
     if answer.len() < ANSWER {
         return SHORT;
     }
-    let opened = Schemes::open(file);
-    if opened.number != 0 {
-        return opened.number as u32 * 1000;
+    let under = Schemes::open(file);
+    if under.number != 0 {
+        return under.number as u32 * 1000;
     }
-    run_text(opened.schemes, text, numbers, budget, answer)
+    run_text(under.schemes, text, numbers, budget, answer)
 }
 
 // What both entries for dry runs return, under any scheme table.

@@ -10,51 +10,51 @@ use Rattle.moves.proofs.frame.Reads as frame-reads
 use Rattle.moves.proofs.holding.Reads as holding-reads
 use Rattle.moves.proofs.resume.Reads as resume-reads
 
--- src/lib.rt:164:14
+-- src/lib.rt:167:14
 cast-at : tie.Need-cast-at
 cast-at c = search needs
 
--- src/lib.rt:164:14
+-- src/lib.rt:167:14
 sub-at : tie.Need-sub-at
 sub-at c = search needs
 
--- src/lib.rt:165:19
+-- src/lib.rt:168:19
 element-copy-out-waiting : tie.Need-element-copy-out-waiting
 element-copy-out-waiting c = search needs
 
--- src/lib.rt:166:32
+-- src/lib.rt:169:32
 element-copy-out-resume : tie.Need-element-copy-out-resume
 element-copy-out-resume c = search needs
 
--- src/lib.rt:166:41
+-- src/lib.rt:169:41
 mul-resume : tie.Need-mul-resume
 mul-resume c = search needs
 
--- src/lib.rt:166:41
+-- src/lib.rt:169:41
 element-copy-out-resume-2 : tie.Need-element-copy-out-resume-2
 element-copy-out-resume-2 c = search needs
 
--- src/lib.rt:166:52
+-- src/lib.rt:169:52
 mul-resume-2 : tie.Need-mul-resume-2
 mul-resume-2 c = search needs
 
--- src/lib.rt:166:52
+-- src/lib.rt:169:52
 element-copy-out-resume-3 : tie.Need-element-copy-out-resume-3
 element-copy-out-resume-3 c = search needs
 
--- src/lib.rt:166:9
+-- src/lib.rt:169:9
 resume-requires : tie.Need-resume-requires
 resume-requires c κs = search needs
 
--- src/lib.rt:173:9
+-- src/lib.rt:176:9
 holding-requires : tie.Need-holding-requires
 holding-requires c κs = search needs
 
--- src/lib.rt:167:5
+-- src/lib.rt:170:5
 frame-requires : tie.Need-frame-requires
 frame-requires c κs = search needs
 
--- src/lib.rt:153:1
+-- src/lib.rt:156:1
 returns : tie.Need-returns
 returns c = let start = c .before .before .before .before .before .before .before .before .before .before .before .before in
     let a = start .args in
