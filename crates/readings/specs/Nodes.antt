@@ -8,7 +8,7 @@ use Rattle.scheme.specs.Schemes.{words}
 use Rattle.scheme.specs.Rule.{highestAt, under}
 use Rattle.scheme.specs.Operation.{keeps}
 use Rattle.model.specs.Machine.{Machine, paramAt, termAt}
-use Rattle.model.specs.Typing.{Ty, int, arrow, Rules, Assignment, Typing}
+use Rattle.model.specs.Typing.{Ty, int, arrow, Rules, Assignment, Follows, FunctionsPlain}
 use Rattle.model.specs.Inference.{Slot, variable, param, row, Shape}
 use Rattle.model.specs.declared.Term.{Term}
 use Rattle.layout.specs.Layout.{rowType, rowQualifier, nodes}
@@ -32,7 +32,11 @@ free m v = record { Q = ℕ; words = words (m .schemes); word = v; Fits = λ o q
 
 -- The reading meets the lines T and P and the first k rows, but for "at or below".
 abbrev pub Meets : Machine → ℕ → (ℕ → Ty ℕ) → (ℕ → ℕ) → Type 0
-Meets m k t v = Typing (free m v) m k (assignment m t v)
+Meets m k t v = Follows (free m v) m k (assignment m t v)
+
+-- Functions are PLAIN in the reading of the lines and the first k rows.
+abbrev pub Plain : Machine → ℕ → (ℕ → Ty ℕ) → (ℕ → ℕ) → Type 0
+Plain m k t v = FunctionsPlain (free m v) m k (assignment m t v)
 
 -- "at or below" in the first k rows.
 abbrev pub RowFits : List ℕ → Term → (ℕ → ℕ) → Type 0
@@ -92,6 +96,7 @@ nodeShape m kind (row i) = kindShape (kind (rowType i))
 -- A solution of the whole program.
 pub record Solution (R : List ℕ) (m : Machine) (t : ℕ → Ty ℕ) (v : ℕ → ℕ) : Type 0 where
   pub meets : Meets m (length (m .terms)) t v
+  pub plain : Plain m (length (m .terms)) t v
   pub constant : Constant (words (m .schemes)) v
   pub coded : Coded (words (m .schemes)) v
   pub fits : FitsAll R m (length (m .terms)) v
@@ -102,5 +107,7 @@ pub record Solved (R : List ℕ) (m : Machine) (w kind : ℕ → ℕ) : Type 0 w
   pub ints : (t : ℕ → Ty ℕ) (v : ℕ → ℕ) → Solution R m t v → (x : ℕ) → x < nodes → kind x ≡ intKind → t x ≡ int
   pub arrows : (t : ℕ → Ty ℕ) (v : ℕ → ℕ) → Solution R m t v → (x : ℕ) → x < nodes → firstArrow ≤ kind x →
       (q : ℕ) × (a : Ty ℕ) × (r : ℕ) × (b : Ty ℕ) × (t x ≡ arrow q a r b)
-  -- with any one type for what is unknown there is a solution that has w
-  pub choice : (leaf : Ty ℕ) → (t : ℕ → Ty ℕ) × Solution R m t w × ((x : ℕ) → x < nodes → kind x ≡ unknown → t x ≡ leaf)
+  -- with INT for all that is unknown there is a solution that has w
+  pub attained : (t : ℕ → Ty ℕ) × Solution R m t w × ((x : ℕ) → x < nodes → kind x ≡ unknown → t x ≡ int)
+  -- where a node is unknown, some solution makes it an arrow
+  pub function : (x : ℕ) → x < nodes → kind x ≡ unknown → (t : ℕ → Ty ℕ) × (v : ℕ → ℕ) × Solution R m t v × (t x ≡ arrow 0 int 0 int)
