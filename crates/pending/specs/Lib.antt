@@ -1,1 +1,3 @@
 pub mod Pending
+pub mod Lines
+pub mod Shapes

@@ -1,10 +1,13 @@
 // Pairs of a qualifier and an unknown type that stand together: once the type is an arrow the qualifier is PLAIN.
+pub mod lines;
+pub mod shapes;
 use layout::FIRST_ARROW;
 use layout::INT;
 use layout::NODES;
 use layout::PAIR_PLACES;
 use layout::UNKNOWN;
 use scheme::RULE;
+ghost use mathlib.Core.Logic.{_⊎_};
 ghost use mathlib.Core.Path.{_≡_};
 ghost use Prim.Native.Nat.{ℕ, _+_, _<_, _≤_};
 ghost use lib.ListN.{length, getD, set};
@@ -34,7 +37,7 @@ fn mark(crowded: &mut [u8; NODES], x: usize, r: usize)
 }
 
 // Looks at the first n pairs: makes PLAIN those whose type is an arrow by now, and keeps those whose type is unknown.
-pub fn sweep(
+pub fn look_through(
     rule: &[u8; RULE],
     qualifierparent: &mut [u16; NODES],
     bound: &mut [u8; NODES],

@@ -1,0 +1,100 @@
+// The pairs of the lines T and P.
+use layout::INT;
+use layout::NODES;
+use layout::PAIR_PLACES;
+use model::PARAMS;
+use model::TYPES;
+use model::TypeForm;
+use model::TypeRow;
+ghost use mathlib.Core.Path.{_≡_};
+ghost use Prim.Native.Nat.{ℕ, _+_, _*_, _<_, _≤_};
+ghost use lib.ListN.{length, getD};
+ghost use Rattle.layout.specs.Layout.{nodes, pairPlaces, rowType, rowQualifier};
+ghost use Rattle.forest.specs.Pairs.{notesOf};
+ghost use Rattle.graph.specs.Types.{kindAt};
+ghost use Rattle.setup.specs.Passes.{FormsStand};
+ghost use Rattle.pending.specs.Lines.{FormPair, ParamPair, Gathered, Earlier};
+
+// Adds a pair behind the first n, unless its type is INT.
+fn add(
+    kind: &[u16; NODES],
+    pairqualifier: &mut [u16; PAIR_PLACES],
+    pairtype: &mut [u16; PAIR_PLACES],
+    n: usize,
+    q: usize,
+    x: usize,
+) -> usize
+    requires { ⌜ (n < pairPlaces) × (q < nodes) × (x < nodes) ⌝ }
+{
+    if kind[x] == INT {
+        return n;
+    }
+    unification::note(pairqualifier, pairtype, n, q, x)
+}
+
+// Adds the pairs of the first type rows: two of each ARROW row, also of one that nothing names.
+pub fn add_types(
+    types: [TypeRow; TYPES],
+    count: usize,
+    kind: &[u16; NODES],
+    pairqualifier: &mut [u16; PAIR_PLACES],
+    pairtype: &mut [u16; PAIR_PLACES],
+) -> usize
+    requires { ⌜ (count ≤ 64) × FormsStand types count ⌝ }
+    ensures { λ r. ⌜ Gathered (FormPair types count) (now (kind .entry)) (notesOf (now (pairqualifier .exit)) (now (pairtype .exit))) 0 r × (r ≤ 2 * count) ⌝ }
+{
+    let mut n: usize = 0;
+    let mut x: usize = 0;
+    while x < count {
+        let row = types[x];
+        let form = row.form;
+        match form {
+            TypeForm::Int => {}
+            TypeForm::Any => {}
+            TypeForm::Arrow(q, a, r, b) => {
+                let one = add(
+                    kind,
+                    pairqualifier,
+                    pairtype,
+                    n,
+                    q as usize,
+                    a as usize,
+                );
+                n = add(kind, pairqualifier, pairtype, one, r as usize, b as usize);
+            }
+        }
+        x += 1;
+    }
+    n
+}
+
+// Adds the pairs of the first parameters, whose nodes the arrays hold, behind the first n.
+pub fn add_params(
+    qualifiers: &[u8; PARAMS],
+    typerows: &[u16; PARAMS],
+    count: usize,
+    kind: &[u16; NODES],
+    pairqualifier: &mut [u16; PAIR_PLACES],
+    pairtype: &mut [u16; PAIR_PLACES],
+    n: usize,
+) -> usize
+    requires { ⌜ (count ≤ 64) × (n ≤ 128) × ((p : ℕ) → p < count → (getD (now qualifiers) p 0 < rowQualifier 0) × (getD (now typerows) p 0 < rowType 0)) ⌝ }
+    ensures { λ r. ⌜ Gathered (ParamPair (now (qualifiers .entry)) (now (typerows .entry)) count) (now (kind .entry)) (notesOf (now (pairqualifier .exit)) (now (pairtype .exit))) n r
+        × (r ≤ n + count)
+        × Earlier (notesOf (now (pairqualifier .entry)) (now (pairtype .entry))) (notesOf (now (pairqualifier .exit)) (now (pairtype .exit))) n ⌝ }
+{
+    let mut next = n;
+    let mut p: usize = 0;
+    while p < count {
+        next = add(
+            kind,
+            pairqualifier,
+            pairtype,
+            next,
+            qualifiers[p] as usize,
+            typerows[p] as usize,
+        );
+        p += 1;
+    }
+    next
+}
