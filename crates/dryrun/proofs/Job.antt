@@ -33,7 +33,7 @@ module _ (S : Schemes) (m : Machine) (w : WellFormed m) (word : Slot → ℕ) (s
   s = a .together .0
 
   rows-meet : (i : ℕ) → i < length (m .terms) → RowMeets (whole S) s (termAt m i) (s .row i)
-  rows-meet i h = a .together .1 .rows-meet i h h
+  rows-meet i h = a .together .1 .follows .rows-meet i h h
 
   -- A row's expression is typed as its row.
   row-typed : (below : ℕ → Expression) (i : ℕ) → i < length (m .terms) → ((j : ℕ) → j < i → Typed S s (below j) (s .row j .qualifier) (s .row j .type)) → (t : Term) →

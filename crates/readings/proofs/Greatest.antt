@@ -22,7 +22,7 @@ use Rattle.readings.specs.Nodes.{assignment, nodeWord, kindShape, nodeSh
 use Rattle.scheme.proofs.Schemes.{sound-few}
 use Rattle.readings.proofs.Numbers.{coded, coded-same}
 use Rattle.readings.proofs.Typable.{nodeType, type-node, row-type-node, nodeQualifier, code-node, row-qualifier-node}
-use Rattle.readings.proofs.Strengths.{wholeNodes, wholeTypes, whole-meets, whole-fits, nodes-constant, nodes-coded, whole-typing}
+use Rattle.readings.proofs.Strengths.{wholeNodes, wholeTypes, whole-meets, whole-plain, whole-fits, nodes-constant, nodes-coded, whole-typing}
 
 -- The shape of a type is kept when its qualifiers are replaced.
 int-of-map : {Q Q′ : Type 0} (f : Q → Q′) (τ : Ty Q) → mapType f τ ≡ int → IsInt τ
@@ -45,6 +45,7 @@ module _ (m : Machine) (wf : WellFormed m) (R : List ℕ) (rules : Ruled (m .sch
   solution =
       record {
         meets = whole-meets m wf (length (m .terms)) s typing;
+        plain = whole-plain m wf (length (m .terms)) s typing;
         constant = nodes-constant m wf (length (m .terms)) s;
         coded = nodes-coded m wf (length (m .terms)) s;
         fits = whole-fits m wf (length (m .terms)) R rules s typing;
@@ -62,12 +63,12 @@ module _ (m : Machine) (wf : WellFormed m) (R : List ℕ) (rules : Ruled (m .sch
   slot-qualifier (param p) l =
       let c : ℕ = paramAt m p .qualifier in
       code-node (words (m .schemes)) (sound-few (wf .schemes-sound)) (coded (m .schemes)) (mapAssignment code s) c (wf .params-stand p l .0)
-      ∙ sym (ap code (typing .params-agree p l .0) ∙ map-code (ltb c (words (m .schemes))) (qualifier (length (m .schemes .names)) c) (s .variable (c - words (m .schemes))))
+      ∙ sym (ap code (typing .follows .params-agree p l .0) ∙ map-code (ltb c (words (m .schemes))) (qualifier (length (m .schemes .names)) c) (s .variable (c - words (m .schemes))))
   slot-qualifier (row i) l = row-qualifier-node (words (m .schemes)) (sound-few (wf .schemes-sound)) (coded (m .schemes)) (mapAssignment code s) i
 
   param-type : (p : ℕ) → p < length (m .params) → wholeTypes m s (paramAt m p .typerow) ≡ mapType code (s .param p .type)
   param-type p l =
-      type-node (mapAssignment code s) _ (omega (arith, wf .params-stand p l .1, wf .types-fit)) ∙ ap (mapType code) (sym (typing .params-agree p l .1))
+      type-node (mapAssignment code s) _ (omega (arith, wf .params-stand p l .1, wf .types-fit)) ∙ ap (mapType code) (sym (typing .follows .params-agree p l .1))
 
   row-type : (i : ℕ) → wholeTypes m s (rowType i) ≡ mapType code (s .row i .type)
   row-type i = row-type-node (mapAssignment code s) i
@@ -84,14 +85,12 @@ module _ (m : Machine) (wf : WellFormed m) (R : List ℕ) (rules : Ruled (m .sch
   abbrev named : ℕ → ruling m .Q
   named = qualifier (length (m .schemes .names))
 
-  -- The typing that takes one type for what is unknown.
-  typed : (leaf : Ty ℕ) → Types (ruling m) m (mapAssignment named (assignment m (solved .choice leaf .0) w))
-  typed leaf =
-      let solution = solved .choice leaf .1 in
-      whole-typing m wf (length (m .terms)) R rules _ w (solution .constant) (solution .meets) (solution .fits)
+  -- A solution is a typing.
+  typed : {t : ℕ → Ty ℕ} {v : ℕ → ℕ} → Solution R m t v → Types (ruling m) m (mapAssignment named (assignment m t v))
+  typed {t} {v} solution = whole-typing m wf (length (m .terms)) R rules t v (solution .constant) (solution .meets) (solution .plain) (solution .fits)
 
   in-words : (x : ℕ) → x < nodes → w x < words (m .schemes)
-  in-words = solved .choice int .1 .coded
+  in-words = solved .attained .1 .coded
 
   in-range : (x : Slot) → Listed (ruling m) m x → qualifierNode m x < nodes
   in-range (variable k) l = omega (arith, l .0, sound-few (wf .schemes-sound))
@@ -114,13 +113,15 @@ module _ (m : Machine) (wf : WellFormed m) (R : List ℕ) (rules : Ruled (m .sch
   -- The shape of a node whose type a typing has, by its kind.
   shape-says : (x : Slot) (node : ℕ) → node < nodes →
       ((s : Assignment (ruling m .Q)) → Types (ruling m) m s → wholeTypes m s node ≡ mapType code (typeOf s x)) →
-      ((t : ℕ → Ty ℕ) → typeOf (mapAssignment named (assignment m t w)) x ≡ mapType named (t node)) →
+      ((t : ℕ → Ty ℕ) (v : ℕ → ℕ) → typeOf (mapAssignment named (assignment m t v)) x ≡ mapType named (t node)) →
       (k : ℕ) → kind node ≡ k → ShapeSays (ruling m) m x (kindShape k)
   unfolding kindShape
-  shape-says x node h same given zero e = (
-    (_, typed int, subst IsInt (sym (given (solved .choice int .0) ∙ ap (mapType named) (solved .choice int .2 node h e))) is-int),
-    (_, typed (arrow 0 int 0 int), subst IsArrow (sym (given (solved .choice (arrow 0 int 0 int) .0) ∙ ap (mapType named) (solved .choice (arrow 0 int 0 int) .2 node h e))) is-arrow),
-  )
+  shape-says x node h same given zero e =
+      let number = solved .attained in
+      let function = solved .function node h e in (
+        (_, typed (number .1), subst IsInt (sym (given (number .0) w ∙ ap (mapType named) (number .2 node h e))) is-int),
+        (_, typed (function .2), subst IsArrow (sym (given (function .0) (function .1) ∙ ap (mapType named) (function .3))) is-arrow),
+      )
   shape-says x node h same given (suc zero) e = λ s typing.
       int-of-map code (typeOf s x) (sym (same s typing) ∙ solved .ints _ _ (solution m wf R rules s typing) node h e)
   shape-says x node h same given (suc (suc d)) e = λ s typing.
@@ -130,19 +131,19 @@ module _ (m : Machine) (wf : WellFormed m) (R : List ℕ) (rules : Ruled (m .sch
   shaped : (x : Slot) → Listed (ruling m) m x → ShapeSays (ruling m) m x (nodeShape m kind x)
   shaped (variable k) l = λ s typing. is-int
   shaped (param p) l =
-      shape-says (param p) (paramAt m p .typerow) (omega (arith, wf .params-stand p l .1, wf .types-fit)) (λ s typing. param-type m wf R rules s typing p l) (λ t. refl) _ refl
-  shaped (row i) l = shape-says (row i) (rowType i) (omega (arith, wf .terms-fit)) (λ s typing. row-type m wf R rules s typing i) (λ t. refl) _ refl
+      shape-says (param p) (paramAt m p .typerow) (omega (arith, wf .params-stand p l .1, wf .types-fit)) (λ s typing. param-type m wf R rules s typing p l) (λ t v. refl) _ refl
+  shaped (row i) l = shape-says (row i) (rowType i) (omega (arith, wf .terms-fit)) (λ s typing. row-type m wf R rules s typing i) (λ t v. refl) _ refl
 
-  attained : (x : Slot) → slotQualifier (mapAssignment named (assignment m (solved .choice int .0) w)) x ≡ named (nodeWord m w x)
+  attained : (x : Slot) → slotQualifier (mapAssignment named (assignment m (solved .attained .0) w)) x ≡ named (nodeWord m w x)
   attained (variable k) = refl
   attained (param p) = refl
   attained (row i) = refl
 
-  any-is-int : (x : Slot) → Listed (ruling m) m x → nodeShape m kind x ≡ Shape.any → IsInt (typeOf (mapAssignment named (assignment m (solved .choice int .0) w)) x)
+  any-is-int : (x : Slot) → Listed (ruling m) m x → nodeShape m kind x ≡ Shape.any → IsInt (typeOf (mapAssignment named (assignment m (solved .attained .0) w)) x)
   any-is-int (variable k) l e = is-int
   any-is-int (param p) l e =
-      subst IsInt (sym (ap (mapType named) (solved .choice int .2 _ (omega (arith, wf .params-stand p l .1, wf .types-fit)) (any-unknown _ e)))) is-int
-  any-is-int (row i) l e = subst IsInt (sym (ap (mapType named) (solved .choice int .2 (rowType i) (omega (arith, wf .terms-fit)) (any-unknown _ e)))) is-int
+      subst IsInt (sym (ap (mapType named) (solved .attained .2 _ (omega (arith, wf .params-stand p l .1, wf .types-fit)) (any-unknown _ e)))) is-int
+  any-is-int (row i) l e = subst IsInt (sym (ap (mapType named) (solved .attained .2 (rowType i) (omega (arith, wf .terms-fit)) (any-unknown _ e)))) is-int
 
   pub solved-greatest : GreatestTyping (ruling m) m (nodeWord m w) (nodeShape m kind)
   solved-greatest =
@@ -150,5 +151,5 @@ module _ (m : Machine) (wf : WellFormed m) (R : List ℕ) (rules : Ruled (m .sch
         worded = λ x l. rw (word-node x) (in-words _ (in-range x l));
         greatest = greatest;
         shaped = shaped;
-        together = (_, typed int, λ x l. attained x, any-is-int);
+        together = (_, typed (solved .attained .1), λ x l. attained x, any-is-int);
       }

@@ -1,25 +1,25 @@
--- The lines T and P alone have a typing: a type row names only rows below it.
+-- The lines T and P alone have a reading, since a type row names only rows below it; and with qualifiers ignored they have a typing together with row 0.
 use Prim.Native.Nat.{ℕ, zero, suc, _<_, _≤_}
 use native.Mathlib.Omega.{arith}
-use mathlib.Core.Bool.{Bool, true, false, cond}
-use mathlib.Core.Path.{_≡_, refl, sym, ap, _∙_}
+use mathlib.Core.Bool.{cond}
+use mathlib.Core.Path.{_≡_, refl, sym, subst, _∙_}
 use lib.Dec.{ltb}
 use lib.ListN.{length}
 use borrow.Author.Tests.{lt-ltb}
 use Rattle.layout.specs.Layout.{rowType}
-use Rattle.model.specs.Machine.{Machine, typeAt, paramAt}
-use Rattle.model.specs.WellFormed.{WellFormed, TypeStands}
+use Rattle.model.specs.Machine.{Machine, typeAt, paramAt, termAt}
+use Rattle.model.specs.WellFormed.{WellFormed, TypeStands, TermStands}
 use Rattle.model.specs.Typing.{Ty, int, arrow, Typable, TypeAgrees}
-use Rattle.model.specs.Strength.{whole}
+use Rattle.model.specs.Strength.{erased}
 use Rattle.model.specs.Inference.{ruling}
 use Rattle.scheme.specs.Schemes.{words}
-use Rattle.scheme.specs.Rule.{Ruled}
-use mathlib.Core.List.{List}
 use Rattle.model.specs.declared.TypeForm.{TypeForm}
 use Rattle.model.specs.declared.TypeForm.the-variants.{Int, Any, Arrow}
-use Rattle.readings.specs.Nodes.{assignment, free, Meets}
-use Rattle.readings.proofs.Rows.{meaning-node}
-use Rattle.readings.proofs.Strengths.{some-whole}
+use Rattle.model.specs.declared.Term.{Term}
+use Rattle.model.specs.declared.Term.the-variants.{Lam, App, Op, Var, Num, Enc}
+use Rattle.readings.specs.Nodes.{assignment, free, Meets, RowHolds, parameterOf}
+use Rattle.readings.proofs.Rows.{meaning-node, meets-more}
+use Rattle.readings.proofs.Strengths.{some-erased}
 
 -- The type of a form, from the types of the rows that it names; INT for an unknown one.
 formType : (ℕ → ℕ) → (ℕ → Ty ℕ) → TypeForm → Ty ℕ
@@ -47,31 +47,64 @@ module _ (m : Machine) (wf : WellFormed m) (v : ℕ → ℕ) where
       form-same (words (m .schemes)) v (fuelType m v f) (fuelType m v g) x (typeAt m x) (wf .types-stand x in-list)
       (λ y below. stable f g y (omega arith) (omega arith) (omega arith))
 
-  type : ℕ → Ty ℕ
-  type x = fuelType m v (suc x) x
+  pub lineType : ℕ → Ty ℕ
+  lineType x = fuelType m v (suc x) x
 
-  agrees : (x : ℕ) (form : TypeForm) → TypeStands (words (m .schemes)) x form → x < length (m .types) → TypeAgrees (free m v) (assignment m type v) form (formType v (fuelType m v x) form)
-  unfolding formType type
-  agrees x Int st h = refl
-  agrees x Any st h = tt
-  agrees x (Arrow q a q′ b) st h =
-      cc (meaning-node m type v q, meaning-node m type v q′, stable x (suc a) a (st .1) (omega arith) (omega (arith, st .1)), stable x (suc b) b (st .3) (omega arith) (omega (arith, st .3)))
+  -- A reading that gives each type row its own type meets the lines.
+  module _ (t : ℕ → Ty ℕ) (own : (x : ℕ) → x < length (m .types) → t x ≡ lineType x) where
+    agrees : (x : ℕ) (form : TypeForm) → TypeStands (words (m .schemes)) x form → x < length (m .types) → TypeAgrees (free m v) (assignment m t v) form (formType v (fuelType m v x) form)
+    unfolding formType lineType
+    agrees x Int st h = refl
+    agrees x Any st h = tt
+    agrees x (Arrow q a q′ b) st h =
+        let argument : t a ≡ fuelType m v x a = own a (omega (arith, st .1)) ∙ stable (suc a) x a (omega arith) (st .1) (omega (arith, st .1)) in
+        let result : t b ≡ fuelType m v x b = own b (omega (arith, st .3)) ∙ stable (suc b) x b (omega arith) (st .3) (omega (arith, st .3)) in
+        cc (meaning-node m t v q, meaning-node m t v q′, argument, result)
 
-  lines-meet : Meets m 0 type v
-  unfolding type fuelType
-  lines-meet =
-      record {
-        types-agree = λ x h. agrees x (typeAt m x) (wf .types-stand x h) h;
-        params-agree = λ p h. (sym (meaning-node m type v (paramAt m p .qualifier)), refl);
-        rows-meet = λ i below h. let z : ⊥ = omega arith in absurd z;
-      }
+    own-meet : Meets m 0 t v
+    unfolding lineType fuelType
+    own-meet =
+        record {
+          types-agree = λ x h. subst (TypeAgrees (free m v) (assignment m t v) (typeAt m x)) (sym (own x h)) (agrees x (typeAt m x) (wf .types-stand x h) h);
+          params-agree = λ p h. (sym (meaning-node m t v (paramAt m p .qualifier)), refl);
+          rows-meet = λ i below h. let z : ⊥ = omega arith in absurd z;
+        }
 
--- Each constant has its own code, and every variable PLAIN.
-plain : ℕ → ℕ → ℕ
-plain w x = cond (ltb x w) x 0
+  pub lines-meet : Meets m 0 lineType v
+  lines-meet = own-meet lineType (λ x h. refl)
 
-pub lines-typable : (m : Machine) → WellFormed m → (R : List ℕ) → Ruled (m .schemes) R → Typable (whole (ruling m)) m 0
-unfolding plain
-lines-typable m wf R rules =
-    some-whole m wf 0 R rules (type m wf (plain (words (m .schemes)))) (plain (words (m .schemes))) (λ c h. rw (lt-ltb c (words (m .schemes)) h)) (lines-meet m wf (plain (words (m .schemes))))
-    (λ i below h. let z : ⊥ = omega arith in absurd z)
+-- Row 0 names no row: it has its parameter's type, or INT.
+firstType : Machine → (ℕ → Ty ℕ) → Term → Ty ℕ
+firstType m t (Lam p b) = int
+firstType m t (App f a) = int
+firstType m t (Op o l r) = int
+firstType m t (Var p) = t (paramAt m p .typerow)
+firstType m t (Num n) = int
+firstType m t (Enc s n) = int
+
+module _ (m : Machine) (wf : WellFormed m) where
+  abbrev lined : ℕ → Ty ℕ
+  lined = lineType m wf (λ x. 0)
+
+  -- Each type row has its own type, and row 0 what it can have.
+  abbrev opening : ℕ → Ty ℕ
+  opening x = cond (ltb x 64) (lined x) (firstType m lined (termAt m 0))
+
+  opening-line : (x : ℕ) → x < 64 → opening x ≡ lined x
+  opening-line x h = rw (lt-ltb x 64 h)
+
+  first-holds : (term : Term) → TermStands (words (m .schemes)) (length (m .params)) 0 term → opening (rowType 0) ≡ firstType m lined term →
+      RowHolds 0 term (paramAt m (parameterOf term) .qualifier) (paramAt m (parameterOf term) .typerow) opening (λ x. 0)
+  unfolding firstType
+  first-holds (Lam p b) st e = let z : ⊥ = omega (arith, st .1) in absurd z
+  first-holds (App f a) st e = let z : ⊥ = omega (arith, st .0) in absurd z
+  first-holds (Op o l r) st e = let z : ⊥ = omega (arith, st .1) in absurd z
+  first-holds (Var p) st e = (refl, e ∙ sym (opening-line _ (omega (arith, wf .params-stand p st .1, wf .types-fit))))
+  first-holds (Num n) st e = e
+  first-holds (Enc s n) st e = (refl, e)
+
+  pub first-row-typable : 0 < length (m .terms) → Typable (erased (ruling m)) m 1
+  first-row-typable h =
+      some-erased m wf 1 opening
+      (meets-more m opening (λ x. 0) 0 (own-meet m wf (λ x. 0) opening (λ x l. opening-line x (omega (arith, wf .types-fit))))
+      (first-holds (termAt m 0) (wf .terms-stand 0 h) refl))

@@ -16,15 +16,15 @@ use Rattle.scheme.proofs.Schemes.{sound-few, highest-code}
 use Rattle.scheme.proofs.Rule.{under-same, under-codes}
 use Rattle.model.specs.Machine.{Machine, termAt}
 use Rattle.model.specs.WellFormed.{WellFormed, TermStands}
-use Rattle.model.specs.Typing.{Ty, Qualified, Assignment, Typing, Typable, RowMeets}
+use Rattle.model.specs.Typing.{Ty, int, arrow, Qualified, Assignment, Follows, PlainArrows, Typing, Typable, RowMeets}
 use Rattle.model.specs.declared.Term.{Term}
 use Rattle.model.specs.declared.Term.the-variants.{Lam, App, Op, Var, Num, Enc}
 use Rattle.model.specs.Strength.{whole, unordered, erased}
 use Rattle.model.specs.Inference.{ruling}
-use Rattle.model.proofs.Weaker.{mapAssignment, weaker-rules, weaker-typing}
-use Rattle.readings.specs.Nodes.{assignment, Meets, RowFits, FitsAll}
+use Rattle.model.proofs.Weaker.{mapAssignment, weaker-follows, weaker-rules, weaker-typing}
+use Rattle.readings.specs.Nodes.{assignment, Meets, Plain, RowFits, FitsAll}
 use Rattle.readings.proofs.Numbers.{coded, coded-same, numbered, loose, blind, whole-numbered, numbered-whole, unordered-loose, loose-unordered, erased-blind, blind-erased}
-use Rattle.readings.proofs.Typable.{nodeType, nodeQualifier, word-node, row-qualifier-node, nodes-meet, typing-of-meets}
+use Rattle.readings.proofs.Typable.{nodeType, nodeQualifier, word-node, row-qualifier-node, nodes-meet, nodes-plain, follows-of-meets, typing-of-meets}
 
 -- The reading of a typing over the qualifiers of the machine's table.
 abbrev pub wholeNodes : (m : Machine) → Assignment (ruling m .Q) → ℕ → ℕ
@@ -32,6 +32,23 @@ wholeNodes m s = nodeQualifier (words (m .schemes)) (coded (m .schemes)) (mapAss
 
 abbrev pub wholeTypes : (m : Machine) → Assignment (ruling m .Q) → ℕ → Ty ℕ
 wholeTypes m s = nodeType (mapAssignment code s)
+
+-- Where there is one qualifier only, it is PLAIN everywhere.
+plain-erased : (τ : Ty (Unit {0})) → PlainArrows tt tt τ
+plain-erased int = tt
+plain-erased (arrow a t r u) = (refl, plain-erased t, plain-erased u)
+
+typing-erased : (m : Machine) (k : ℕ) (s : Assignment (erased (ruling m) .Q)) → Follows (erased (ruling m)) m k s → Typing (erased (ruling m)) m k s
+typing-erased m k s follows =
+    record {
+      follows = follows;
+      functions =
+          record {
+            types = λ t h. plain-erased (s .type t);
+            params = λ p h. plain-erased (s .param p .type);
+            rows = λ i below h. plain-erased (s .row i .type);
+          };
+    }
 
 below-cond : (w : ℕ) (b : Bool) (x y : ℕ) → x < w → y < w → cond b x y < w
 below-cond w true x y h l = h
@@ -47,10 +64,20 @@ module _ (m : Machine) (wf : WellFormed m) (k : ℕ) where
   -- Each typing is a reading that meets the rows.
   pub whole-meets : (s : Assignment (ruling m .Q)) → Typing (whole (ruling m)) m k s → Meets m k (wholeTypes m s) (wholeNodes m s)
   whole-meets s typing =
-      nodes-meet m wf (coded (m .schemes)) (numbered (m .schemes) .Fits) k (mapAssignment code s) (weaker-typing (whole-numbered (m .schemes) sound) typing)
+      nodes-meet m wf (coded (m .schemes)) (numbered (m .schemes) .Fits) k (mapAssignment code s) (weaker-follows (whole-numbered (m .schemes) sound) (typing .follows))
+
+  pub whole-plain : (s : Assignment (ruling m .Q)) → Typing (whole (ruling m)) m k s → Plain m k (wholeTypes m s) (wholeNodes m s)
+  whole-plain s typing =
+      let numbers = weaker-typing (whole-numbered (m .schemes) sound) typing in
+      nodes-plain m wf (coded (m .schemes)) (numbered (m .schemes) .Fits) k (mapAssignment code s) (numbers .follows) (numbers .functions)
 
   pub loose-meets : (s : Assignment (ruling m .Q)) → Typing (unordered (ruling m)) m k s → Meets m k (wholeTypes m s) (wholeNodes m s)
-  loose-meets s typing = nodes-meet m wf (coded (m .schemes)) (loose (m .schemes) .Fits) k (mapAssignment code s) (weaker-typing (unordered-loose (m .schemes)) typing)
+  loose-meets s typing = nodes-meet m wf (coded (m .schemes)) (loose (m .schemes) .Fits) k (mapAssignment code s) (weaker-follows (unordered-loose (m .schemes)) (typing .follows))
+
+  pub loose-plain : (s : Assignment (ruling m .Q)) → Typing (unordered (ruling m)) m k s → Plain m k (wholeTypes m s) (wholeNodes m s)
+  loose-plain s typing =
+      let numbers = weaker-typing (unordered-loose (m .schemes)) typing in
+      nodes-plain m wf (coded (m .schemes)) (loose (m .schemes) .Fits) k (mapAssignment code s) (numbers .follows) (numbers .functions)
 
   pub nodes-constant : (s : Assignment (ruling m .Q)) → Constant (words (m .schemes)) (wholeNodes m s)
   nodes-constant s c h = word-node (words (m .schemes)) few (coded (m .schemes)) (mapAssignment code s) c h ∙ coded-same (m .schemes) c h
@@ -63,21 +90,21 @@ module _ (m : Machine) (wf : WellFormed m) (k : ℕ) where
   -- No reading, no typing.
   pub none-erased : ((t : ℕ → Ty ℕ) (v : ℕ → ℕ) → Meets m k t v → ⊥) → ¬ Typable (erased (ruling m)) m k
   none-erased none (s, typing) =
-      none _ _ (nodes-meet m wf (λ c. 0) (blind (m .schemes) .Fits) k (mapAssignment (erased-blind (m .schemes) .image) s) (weaker-typing (erased-blind (m .schemes)) typing))
+      none _ _ (nodes-meet m wf (λ c. 0) (blind (m .schemes) .Fits) k (mapAssignment (erased-blind (m .schemes) .image) s) (weaker-follows (erased-blind (m .schemes)) (typing .follows)))
 
-  pub none-unordered : ((t : ℕ → Ty ℕ) (v : ℕ → ℕ) → Constant (words (m .schemes)) v → Meets m k t v → ⊥) → ¬ Typable (unordered (ruling m)) m k
-  none-unordered none (s, typing) = none _ _ (nodes-constant s) (loose-meets s typing)
+  pub none-unordered : ((t : ℕ → Ty ℕ) (v : ℕ → ℕ) → Constant (words (m .schemes)) v → Meets m k t v → Plain m k t v → ⊥) → ¬ Typable (unordered (ruling m)) m k
+  none-unordered none (s, typing) = none _ _ (nodes-constant s) (loose-meets s typing) (loose-plain s typing)
 
   -- A reading is a typing.
   pub some-erased : (t : ℕ → Ty ℕ) → Meets m k t (λ x. 0) → Typable (erased (ruling m)) m k
   some-erased t meets =
-      weaker-rules (blind-erased (m .schemes))
-      (assignment m t (λ x. 0), typing-of-meets m wf (λ c. 0) (blind (m .schemes) .Fits) k t (λ x. 0) (λ c h. refl) meets (λ i below in-list o l r is. tt))
+      let follows = follows-of-meets m wf (λ c. 0) (blind (m .schemes) .Fits) k t (λ x. 0) (λ c h. refl) (λ i below in-list o l r is. tt) meets in
+      (_, typing-erased m k (mapAssignment (blind-erased (m .schemes) .image) (assignment m t (λ x. 0))) (weaker-follows (blind-erased (m .schemes)) follows))
 
-  pub some-unordered : (t : ℕ → Ty ℕ) (v : ℕ → ℕ) → Constant (words (m .schemes)) v → Meets m k t v → Typable (unordered (ruling m)) m k
-  some-unordered t v constant meets =
+  pub some-unordered : (t : ℕ → Ty ℕ) (v : ℕ → ℕ) → Constant (words (m .schemes)) v → Meets m k t v → Plain m k t v → Typable (unordered (ruling m)) m k
+  some-unordered t v constant meets plain =
       weaker-rules (loose-unordered (m .schemes))
-      (assignment m t v, typing-of-meets m wf (coded (m .schemes)) (loose (m .schemes) .Fits) k t v (λ c h. constant c h ∙ sym (coded-same (m .schemes) c h)) meets (λ i below in-list o l r is. tt))
+      (assignment m t v, typing-of-meets m wf (coded (m .schemes)) (loose (m .schemes) .Fits) k t v (λ c h. constant c h ∙ sym (coded-same (m .schemes) c h)) (λ i below in-list o l r is. tt) meets plain)
 
   -- With the ruling of the table, "at or below" in the rows is the table's.
   module _ (R : List ℕ) (rules : Ruled (m .schemes) R) where
@@ -95,10 +122,10 @@ module _ (m : Machine) (wf : WellFormed m) (k : ℕ) where
     row-fits s i (Enc e n) ρ st h = tt
 
     pub whole-fits : (s : Assignment (ruling m .Q)) → Typing (whole (ruling m)) m k s → FitsAll R m k (wholeNodes m s)
-    whole-fits s typing i below in-list = row-fits s i (termAt m i) (s .row i) (wf .terms-stand i in-list) (typing .rows-meet i below in-list)
+    whole-fits s typing i below in-list = row-fits s i (termAt m i) (s .row i) (wf .terms-stand i in-list) (typing .follows .rows-meet i below in-list)
 
-    pub none-whole : ((t : ℕ → Ty ℕ) (v : ℕ → ℕ) → Constant (words (m .schemes)) v → Coded (words (m .schemes)) v → Meets m k t v → FitsAll R m k v → ⊥) → ¬ Typable (whole (ruling m)) m k
-    none-whole none (s, typing) = none _ _ (nodes-constant s) (nodes-coded s) (whole-meets s typing) (whole-fits s typing)
+    pub none-whole : ((t : ℕ → Ty ℕ) (v : ℕ → ℕ) → Constant (words (m .schemes)) v → Coded (words (m .schemes)) v → Meets m k t v → Plain m k t v → FitsAll R m k v → ⊥) → ¬ Typable (whole (ruling m)) m k
+    none-whole none (s, typing) = none _ _ (nodes-constant s) (nodes-coded s) (whole-meets s typing) (whole-plain s typing) (whole-fits s typing)
 
     op-fits : (v : ℕ → ℕ) (i : ℕ) (term : Term) → TermStands (words (m .schemes)) (length (m .params)) i term → RowFits R term v → (o l r : ℕ) → term ≡ Op o l r →
         below (m .schemes) (v (rowQualifier l)) (highestOf (m .schemes) o) ≡ true
@@ -108,12 +135,12 @@ module _ (m : Machine) (wf : WellFormed m) (k : ℕ) where
         let named : under R (v (rowQualifier l)) (highestOf (m .schemes) o) ≡ true = rw (rules .highest-same o (stands .0)) at bound in
         sym (under-same sound rules _ _ (omega (arith, under-codes R _ _ named .0, rules .words-same)) (highest-code sound o (stands .0))) ∙ named
 
-    pub whole-typing : (t : ℕ → Ty ℕ) (v : ℕ → ℕ) → Constant (words (m .schemes)) v → Meets m k t v → FitsAll R m k v →
+    pub whole-typing : (t : ℕ → Ty ℕ) (v : ℕ → ℕ) → Constant (words (m .schemes)) v → Meets m k t v → Plain m k t v → FitsAll R m k v →
         Typing (whole (ruling m)) m k (mapAssignment (qualifier (length (m .schemes .names))) (assignment m t v))
-    whole-typing t v constant meets fits =
+    whole-typing t v constant meets plain fits =
         weaker-typing (numbered-whole (m .schemes) sound)
-        (typing-of-meets m wf (coded (m .schemes)) (numbered (m .schemes) .Fits) k t v (λ c h. constant c h ∙ sym (coded-same (m .schemes) c h)) meets
-        (λ i below in-list o l r is. op-fits v i (termAt m i) (wf .terms-stand i in-list) (fits i below in-list) o l r is))
+        (typing-of-meets m wf (coded (m .schemes)) (numbered (m .schemes) .Fits) k t v (λ c h. constant c h ∙ sym (coded-same (m .schemes) c h))
+        (λ i below in-list o l r is. op-fits v i (termAt m i) (wf .terms-stand i in-list) (fits i below in-list) o l r is) meets plain)
 
-    pub some-whole : (t : ℕ → Ty ℕ) (v : ℕ → ℕ) → Constant (words (m .schemes)) v → Meets m k t v → FitsAll R m k v → Typable (whole (ruling m)) m k
-    some-whole t v constant meets fits = (mapAssignment (qualifier (length (m .schemes .names))) (assignment m t v), whole-typing t v constant meets fits)
+    pub some-whole : (t : ℕ → Ty ℕ) (v : ℕ → ℕ) → Constant (words (m .schemes)) v → Meets m k t v → Plain m k t v → FitsAll R m k v → Typable (whole (ruling m)) m k
+    some-whole t v constant meets plain fits = (mapAssignment (qualifier (length (m .schemes .names))) (assignment m t v), whole-typing t v constant meets plain fits)

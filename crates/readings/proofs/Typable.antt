@@ -11,12 +11,12 @@ use Rattle.scheme.specs.Schemes.{words}
 use Rattle.scheme.specs.Operation.{keeps}
 use Rattle.model.specs.Machine.{Machine, typeAt, paramAt, termAt}
 use Rattle.model.specs.WellFormed.{WellFormed, TypeStands, TermStands}
-use Rattle.model.specs.Typing.{Ty, int, arrow, Rules, Assignment, Typing, Typable, meaning, TypeAgrees, ParamAgrees, RowMeets}
+use Rattle.model.specs.Typing.{Ty, int, arrow, Rules, Assignment, Follows, FunctionsPlain, Typing, meaning, TypeAgrees, ParamAgrees, RowMeets}
 use Rattle.model.specs.declared.TypeForm.{TypeForm}
 use Rattle.model.specs.declared.TypeForm.the-variants.{Int, Any, Arrow}
 use Rattle.model.specs.declared.Term.{Term}
 use Rattle.model.specs.declared.Term.the-variants.{Lam, App, Op, Var, Num, Enc}
-use Rattle.readings.specs.Nodes.{assignment, free, Meets, RowFits, FitsAll}
+use Rattle.readings.specs.Nodes.{assignment, free, Meets, Plain}
 use Rattle.readings.proofs.Rows.{meaning-node}
 use Rattle.scheme.proofs.Schemes.{sound-few}
 
@@ -69,15 +69,15 @@ module _ (m : Machine) (wf : WellFormed m) (word : ℕ → ℕ) (Fits : ℕ → 
   type-same x (Arrow q a q′ b) h st e =
       cc (type-node s x h, e, type-node s a (omega (arith, st .1)), type-node s b (omega (arith, st .3)), meaning-same q (st .0), meaning-same q′ (st .2))
 
-  module _ (typing : Typing rules m k s) where
+  module _ (follows : Follows rules m k s) where
     -- A parameter has what its line's nodes have.
     param-qualifier : (p : ℕ) → p < length (m .params) → s .param p .qualifier ≡ v (paramAt m p .qualifier)
     param-qualifier p h =
-        typing .params-agree p h .0 ∙ meaning-same _ (wf .params-stand p h .0) ∙ meaning-node m t v (paramAt m p .qualifier)
+        follows .params-agree p h .0 ∙ meaning-same _ (wf .params-stand p h .0) ∙ meaning-node m t v (paramAt m p .qualifier)
 
     param-type : (p : ℕ) → p < length (m .params) → s .param p .type ≡ t (paramAt m p .typerow)
     param-type p h =
-        typing .params-agree p h .1 ∙ sym (type-node s _ (omega (arith, wf .params-stand p h .1, wf .types-fit)))
+        follows .params-agree p h .1 ∙ sym (type-node s _ (omega (arith, wf .params-stand p h .1, wf .types-fit)))
 
     row-same : (i : ℕ) (term : Term) → TermStands (words (m .schemes)) (length (m .params)) i term → RowMeets rules s term (s .row i) →
         RowMeets (free m v) (assignment m t v) term (assignment m t v .row i)
@@ -103,14 +103,23 @@ module _ (m : Machine) (wf : WellFormed m) (word : ℕ → ℕ) (Fits : ℕ → 
     pub nodes-meet : Meets m k (nodeType s) (nodeQualifier (words (m .schemes)) word s)
     nodes-meet =
         record {
-          types-agree = λ x h. type-same x (typeAt m x) (omega (arith, wf .types-fit)) (wf .types-stand x h) (typing .types-agree x h);
+          types-agree = λ x h. type-same x (typeAt m x) (omega (arith, wf .types-fit)) (wf .types-stand x h) (follows .types-agree x h);
           params-agree = λ p h. (sym (meaning-node m t v (paramAt m p .qualifier)), refl);
-          rows-meet = λ i below h. row-same i (termAt m i) (wf .terms-stand i h) (typing .rows-meet i below h);
+          rows-meet = λ i below h. row-same i (termAt m i) (wf .terms-stand i h) (follows .rows-meet i below h);
+        }
+
+    pub nodes-plain : FunctionsPlain rules m k s → Plain m k (nodeType s) (nodeQualifier (words (m .schemes)) word s)
+    nodes-plain functions =
+        let plain : word 0 ≡ v 0 = sym (word-node (words (m .schemes)) few word s 0 (omega arith)) in
+        record {
+          types = λ x h. rw (plain, sym (type-node s x (omega (arith, wf .types-fit)))) at (functions .types x h);
+          params = λ p h. rw (plain, param-qualifier p h, param-type p h) at (functions .params p h);
+          rows = λ i below h. rw (plain, sym (row-qualifier-node (words (m .schemes)) few word s i), sym (row-type-node s i)) at (functions .rows i below h);
         }
 
 -- A reading that gives the constants their words, and meets the bounds that the rules ask, is a typing of those rules.
 module _ (m : Machine) (wf : WellFormed m) (word : ℕ → ℕ) (Fits : ℕ → ℕ → Type 0) (k : ℕ) (t : ℕ → Ty ℕ) (v : ℕ → ℕ)
-    (own : (c : ℕ) → c < words (m .schemes) → v c ≡ word c) (meets : Meets m k t v) where
+    (own : (c : ℕ) → c < words (m .schemes) → v c ≡ word c) where
   abbrev worded : Rules
   worded = record { Q = ℕ; words = words (m .schemes); word = word; Fits = Fits }
 
@@ -127,6 +136,15 @@ module _ (m : Machine) (wf : WellFormed m) (word : ℕ → ℕ) (Fits : ℕ → 
   type-worded Any τ e = tt
   type-worded (Arrow q a q′ b) τ e = cc (e, meaning-worded q, meaning-worded q′)
 
+  functions-of-plain : Plain m k t v → FunctionsPlain worded m k (assignment m t v)
+  functions-of-plain plain =
+      let plain-own : v 0 ≡ word 0 = own 0 (omega arith) in
+      record {
+        types = λ x h. rw plain-own at (plain .types x h);
+        params = λ p h. rw plain-own at (plain .params p h);
+        rows = λ i below h. rw plain-own at (plain .rows i below h);
+      }
+
   module _ (fits : (i : ℕ) → i < k → i < length (m .terms) → (o l r : ℕ) → termAt m i ≡ Op o l r → Fits o (v (rowQualifier l))) where
     row-worded : (i : ℕ) (term : Term) → termAt m i ≡ term → i < k → i < length (m .terms) → TermStands (words (m .schemes)) (length (m .params)) i term →
         RowMeets (free m v) (assignment m t v) term (assignment m t v .row i) → RowMeets worded (assignment m t v) term (assignment m t v .row i)
@@ -137,10 +155,13 @@ module _ (m : Machine) (wf : WellFormed m) (word : ℕ → ℕ) (Fits : ℕ → 
     row-worded i (Num n) is below in-list st h = h
     row-worded i (Enc e n) is below in-list st h = (h .0 ∙ own e (omega (arith, st .1)), h .1)
 
-    pub typing-of-meets : Typing worded m k (assignment m t v)
-    typing-of-meets =
+    pub follows-of-meets : Meets m k t v → Follows worded m k (assignment m t v)
+    follows-of-meets meets =
         record {
           types-agree = λ x h. type-worded (typeAt m x) (t x) (meets .types-agree x h);
           params-agree = λ p h. (meets .params-agree p h .0 ∙ sym (meaning-worded (paramAt m p .qualifier)), refl);
           rows-meet = λ i below h. row-worded i (termAt m i) refl below h (wf .terms-stand i h) (meets .rows-meet i below h);
         }
+
+    pub typing-of-meets : Meets m k t v → Plain m k t v → Typing worded m k (assignment m t v)
+    typing-of-meets meets plain = record { follows = follows-of-meets meets; functions = functions-of-plain plain }

@@ -9,7 +9,7 @@ use Rattle.model.specs.Strength.{Schemes, whole, unordered, erased}
 use Rattle.model.specs.Inference.{Cause, shapes, qualifiers, bounds, Refusal}
 use Rattle.model.proofs.Fewer.{typable-fewer}
 use Rattle.model.proofs.Weaker.{weaker-rules, whole-unordered, unordered-erased}
-use Rattle.starred.proofs.Typings.{Equations, equations-typing, typing-equations, uniform}
+use Rattle.starred.proofs.Typings.{Equations, follows-equations, uniform, UniformTyped, uniform-typing}
 
 -- No type contains itself: an arrow is larger than its argument.
 abbrev size : {Q : Type 0} → Ty Q → ℕ
@@ -30,14 +30,14 @@ refusal-number refusal = cause-number (refusal .cause)
 
 -- The first k rows have the typing with PLAIN for all variables and literals and INT for all type rows.
 abbrev pub Plainly : (R : Rules) → Machine → ℕ → Type 0
-Plainly R m k = Equations R m k (uniform R m (R .word 0) int)
+Plainly R m k = UniformTyped R m k (R .word 0) (R .word 0) int
 
 plainly-typable : (R : Rules) (m : Machine) (k : ℕ) → Plainly R m k → Typable R m k
-plainly-typable R m k e = (uniform R m (R .word 0) int, equations-typing R m k _ e)
+plainly-typable R m k e = (uniform R m (R .word 0) (R .word 0) int, uniform-typing R m k (R .word 0) (R .word 0) int e)
 
 module _ (S : Schemes) (m : Machine) (k : ℕ) (in-list : k < length (m .terms)) (before : Plainly (whole S) m k) where
   untypable : (R : Rules) → ((s : Assignment (R .Q)) → ¬ Equations R m (k + 1) s) → ¬ Typable R m (k + 1)
-  untypable R none (s, typing) = none s (typing-equations R m (k + 1) s (omega arith) typing)
+  untypable R none (s, typing) = none s (follows-equations R m (k + 1) s (omega arith) (typing .follows))
 
   refusal : {number : ℕ} → ¬ Typable (whole S) m (k + 1) → Cause S m (k + 1) number → Refusal S m number k
   refusal none cause =

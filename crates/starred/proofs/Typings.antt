@@ -3,9 +3,10 @@ use Prim.Native.Nat.{ℕ, zero, suc, _≤_, _<_}
 use native.Mathlib.Nat.{le-of-suc-le-suc, not-suc-le-zero}
 use native.Mathlib.Omega.{arith}
 use mathlib.Core.List.{List, [], _∷_, _++_}
+use mathlib.Core.Path.{refl}
 use lib.ListN.{length, getD}
 use Rattle.model.specs.Machine.{Machine, typeAt, paramAt, termAt}
-use Rattle.model.specs.Typing.{Ty, int, arrow, Qualified, Rules, Assignment, resultQualifier, meaning, TypeAgrees, ParamAgrees, RowMeets, Typing}
+use Rattle.model.specs.Typing.{Ty, int, arrow, Qualified, Rules, Assignment, resultQualifier, meaning, TypeAgrees, ParamAgrees, RowMeets, Follows, PlainArrows, Typing}
 use Rattle.model.specs.declared.TermRow.{TermRow}
 use Rattle.model.specs.declared.Param.{Param}
 use Rattle.model.specs.declared.Term.{Term}
@@ -26,7 +27,7 @@ at-below zero P h = tt
 at-below (suc n) P h = (h zero (omega arith), at-below n (λ k. P (suc k)) (λ k below. h (suc k) (omega arith)))
 
 module _ (R : Rules) (m : Machine) where
-  -- What the lines T and P and the first k term rows ask of an assignment.
+  -- What the rules of the lines T and P and of the first k term rows ask of an assignment.
   abbrev pub Equations : ℕ → Assignment (R .Q) → Type 0
   Equations k s =
       Below (length (m .types)) (λ t. TypeAgrees R s (typeAt m t) (s .type t))
@@ -34,16 +35,16 @@ module _ (R : Rules) (m : Machine) where
       × Below k (λ i. RowMeets R s (termAt m i) (s .row i))
 
   module _ (k : ℕ) (s : Assignment (R .Q)) where
-    pub equations-typing : Equations k s → Typing R m k s
-    equations-typing e =
+    equations-follows : Equations k s → Follows R m k s
+    equations-follows e =
         record {
           types-agree = below-at (length (m .types)) (λ t. TypeAgrees R s (typeAt m t) (s .type t)) (e .0);
           params-agree = below-at (length (m .params)) (λ p. ParamAgrees R s (paramAt m p) (s .param p)) (e .1);
           rows-meet = λ i below _. below-at k (λ i. RowMeets R s (termAt m i) (s .row i)) (e .2) i below;
         }
 
-    pub typing-equations : k ≤ length (m .terms) → Typing R m k s → Equations k s
-    typing-equations h t = (
+    pub follows-equations : k ≤ length (m .terms) → Follows R m k s → Equations k s
+    follows-equations h t = (
       at-below (length (m .types)) (λ t. TypeAgrees R s (typeAt m t) (s .type t)) (t .types-agree),
       at-below (length (m .params)) (λ p. ParamAgrees R s (paramAt m p) (s .param p)) (t .params-agree),
       at-below k (λ i. RowMeets R s (termAt m i) (s .row i)) (λ i below. t .rows-meet i below (omega arith)),
@@ -90,6 +91,51 @@ module _ (R : Rules) (m : Machine) where
           row = λ i. getD (rowsOf [] (m .terms)) i plainInt;
         }
 
-  -- One qualifier for all variables and literals, and one type for all type rows.
-  abbrev pub uniform : R .Q → Ty (R .Q) → Assignment (R .Q)
-  uniform q t = determined (λ v. q) q (λ row. t)
+    abbrev Plain : Qualified (R .Q) → Type 0
+    Plain ρ = PlainArrows (R .word 0) (ρ .qualifier) (ρ .type)
+
+    -- Where functions are PLAIN in the parameters, they are so in the rows.
+    module _ (params : (p : ℕ) → Plain (declared (paramAt m p))) where
+      result-plain : (q : R .Q) (τ : Ty (R .Q)) → PlainArrows (R .word 0) q τ → Plain (resultOf τ)
+      result-plain q int h = tt
+      result-plain q (arrow a t r u) h = h .2
+
+      row-plain : (row : ℕ → Qualified (R .Q)) → ((i : ℕ) → Plain (row i)) → (term : Term) → Plain (rowOf row term)
+      row-plain row h (Lam p b) = (refl, params p, h b)
+      row-plain row h (App f a) = result-plain (row f .qualifier) (row f .type) (h f)
+      row-plain row h (Op o l r) = tt
+      row-plain row h (Var p) = params p
+      row-plain row h (Num n) = tt
+      row-plain row h (Enc e n) = tt
+
+      last-plain : (known : List (Qualified (R .Q))) (ρ : Qualified (R .Q)) → ((i : ℕ) → Plain (getD known i plainInt)) → Plain ρ → (i : ℕ) → Plain (getD (known ++ (ρ ∷ [])) i plainInt)
+      last-plain [] ρ h last zero = last
+      last-plain [] ρ h last (suc i) = tt
+      last-plain (first ∷ known) ρ h last zero = h zero
+      last-plain (first ∷ known) ρ h last (suc i) = last-plain known ρ (λ i. h (suc i)) last i
+
+      rows-plain : (known : List (Qualified (R .Q))) (rows : List TermRow) → ((i : ℕ) → Plain (getD known i plainInt)) → (i : ℕ) → Plain (getD (rowsOf known rows) i plainInt)
+      rows-plain known [] h = h
+      rows-plain known (row ∷ rows) h = rows-plain _ rows (last-plain known _ h (row-plain _ h (row .term)))
+
+  -- One qualifier for all variables, one for all literals, and one type for all type rows.
+  abbrev pub uniform : R .Q → R .Q → Ty (R .Q) → Assignment (R .Q)
+  uniform q literal t = determined (λ v. q) literal (λ row. t)
+
+  -- What makes it a typing of the lines and the first k rows: the rules, and functions that are PLAIN in the type and in the parameters.
+  abbrev pub UniformTyped : ℕ → R .Q → R .Q → Ty (R .Q) → Type 0
+  UniformTyped k q literal t =
+      let s = uniform q literal t in
+      Equations k s × PlainArrows (R .word 0) (R .word 0) t × ((p : ℕ) → PlainArrows (R .word 0) (s .param p .qualifier) (s .param p .type))
+
+  pub uniform-typing : (k : ℕ) (q literal : R .Q) (t : Ty (R .Q)) → UniformTyped k q literal t → Typing R m k (uniform q literal t)
+  uniform-typing k q literal t (e, plain, params) =
+      record {
+        follows = equations-follows k (uniform q literal t) e;
+        functions =
+            record {
+              types = λ x h. plain;
+              params = λ p h. params p;
+              rows = λ i below h. rows-plain (λ v. q) literal (λ row. t) params [] (m .terms) (λ i. tt) i;
+            };
+      }

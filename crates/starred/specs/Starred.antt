@@ -1,5 +1,5 @@
 -- The starred programs as one list, each with what `place` prints of it.
--- Document 01, "Programs to try": "Starred ones (and A) are proved."; document 02, b).
+-- Document 01, "Programs to try": "Starred ones (and A) are proved."; document 02, b) and f).
 use Prim.Native.Nat.{ℕ}
 use Prim.Native.String.{String}
 use mathlib.Core.List.{List, [], _∷_, _++_}
@@ -166,12 +166,12 @@ sum-of-comparisons =
           ∷ [];
     }
 
--- "* x applied to NUM: x RAND, ARROW." The NUM, which nothing bounds, is RAND as well.
+-- "Case x applied to NUM becomes x PLAIN, ARROW." (document 02, f): the NUM and the result, which nothing bounds, are RAND.
 abbrev pub x-applied-to-number : Example
 x-applied-to-number =
     record {
       program = "T,0,ANY" ∷ "P,0,g0,0" ∷ "E,0,VAR,0" ∷ "E,1,NUM,3" ∷ "E,2,APP,0,1" ∷ "E,3,LAM,0,2" ∷ [];
-      output = "OK,1,4" ∷ "G,0,RAND" ∷ "P,0,RAND,ARROW" ∷ "E,0,RAND,ARROW" ∷ "E,1,RAND,INT" ∷ "E,2,RAND,ANY" ∷ "E,3,PLAIN,ARROW" ∷ [];
+      output = "OK,1,4" ∷ "G,0,PLAIN" ∷ "P,0,PLAIN,ARROW" ∷ "E,0,PLAIN,ARROW" ∷ "E,1,RAND,INT" ∷ "E,2,RAND,ANY" ∷ "E,3,PLAIN,ARROW" ∷ [];
     }
 
 -- "The starred cases form one list, with one theorem over it."
