@@ -7,26 +7,34 @@ use layout::PART_PLACES;
 use layout::UNKNOWN;
 use model::PARAMS;
 use model::Term;
+use pending::Sweep;
 use scheme::RULE;
 use unification::Joining;
 ghost use mathlib.Core.List.{List};
-ghost use Prim.Native.Nat.{ℕ, _+_, _<_};
-ghost use Rattle.forest.specs.Pairs.{notesOf};
+ghost use Prim.Native.Nat.{ℕ, _+_, _<_, _≤_};
+ghost use Rattle.forest.specs.Pairs.{Pairs, notesOf};
 ghost use Rattle.layout.specs.Layout.{rowType, rowQualifier, nodes};
 ghost use Rattle.model.specs.declared.Term.the-variants.{App, Op};
 ghost use Rattle.forest.specs.Forest.{Forest};
-ghost use Rattle.graph.specs.Types.{Parts, TypeClasses, PairRoom, Same, typesOf};
-ghost use Rattle.graph.specs.Unused.{Unused};
+ghost use lib.ListN.{length};
+ghost use mathlib.Core.Bool.{false};
+ghost use mathlib.Core.Path.{_≡_};
+ghost use Rattle.graph.specs.Types.{Parts, TypeClasses, PairRoom, Same, NodeArrow, typesOf, argument};
+ghost use Rattle.graph.specs.Steady.{Calm, Steady, RootOfEither};
+ghost use Rattle.graph.specs.Unused.{Within, Unused};
 ghost use Rattle.qualifiers.specs.Classes.{Classes, Untouched, qualifiersOf};
 ghost use Rattle.readings.specs.Nodes.{RowHolds, RowFits, nodeNamed};
 ghost use Rattle.unification.specs.Answers.{Enforces, Confined};
-ghost use Rattle.setup.specs.Descriptors.{Describes};
+ghost use Rattle.unification.specs.Merging.{InUse, Quiet};
+ghost use Rattle.pending.specs.Pending.{pendingOf};
+ghost use Rattle.setup.specs.Descriptors.{HasParts, Describes};
 ghost use Rattle.rows.specs.Rows.{RowStands};
-ghost use Rattle.rows.specs.Steps.{Ready, Stepped, Known, UnknownRoot, Bound};
+ghost use Rattle.rows.specs.Steps.{Ready, Stepped, leftOf, OwnPlain, PlainAtRow, Calls, Known, UnknownRoot, Bound};
+ghost use Rattle.rows.specs.Applying.{Foreseen, MadePlain};
 
-// How a row's step went: fine; or its types clash, and are as they were; or its types clash; or two constants meet; or one is above its bound.
+// How a row's step went: fine, with so many pairs pending; or its types clash, and are as they were; or its types clash; or two constants meet; or one is above its bound.
 pub enum Verdict {
-    Fine,
+    Fine(usize),
     Shapes,
     Lost,
     Apart,
@@ -55,6 +63,7 @@ fn op_row(
     bound: &mut [u8; NODES],
     typeparent: &mut [u16; NODES],
     kind: &mut [u16; NODES],
+    n: usize,
     i: usize,
     o: u8,
     l: usize,
@@ -64,10 +73,10 @@ fn op_row(
         ∗ ⌜ Classes (now rule) (qualifiersOf (now qualifierparent) (now bound)) ⌝
         ∗ ⌜ (i < 256) × (l < i) × (r < i) × (o < 5) ⌝
         ∗ ⌜ Untouched (now rule) (rowQualifier i) (qualifiersOf (now qualifierparent) (now bound)) ⌝ }
-    ensures { λ a. ⌜ ((kids : List ℕ) → Ready (now (rule .entry)) i kids
-        (typesOf (now (typeparent .entry)) (now (kind .entry))) (qualifiersOf (now (qualifierparent .entry)) (now (bound .entry))) → Stepped (now (rule .entry)) i kids
-        (typesOf (now (typeparent .entry)) (now (kind .entry))) (qualifiersOf (now (qualifierparent .entry)) (now (bound .entry)))
-        (typesOf (now (typeparent .exit)) (now (kind .exit))) (qualifiersOf (now (qualifierparent .exit)) (now (bound .exit))) (RowHolds i (Op o l r) 0 0) (RowFits (now (rule .entry)) (Op o l r)) a) ⌝ }
+    ensures { λ a. ⌜ ((kids left right crowded : List ℕ) → Ready (now (rule .entry)) i kids
+        (typesOf (now (typeparent .entry)) (now (kind .entry))) (qualifiersOf (now (qualifierparent .entry)) (now (bound .entry))) (pendingOf left right crowded n) → Stepped (now (rule .entry)) i kids
+        (typesOf (now (typeparent .entry)) (now (kind .entry))) (qualifiersOf (now (qualifierparent .entry)) (now (bound .entry))) (pendingOf left right crowded n)
+        (leftOf (now (typeparent .exit)) (now (kind .exit)) (now (qualifierparent .exit)) (now (bound .exit)) left right crowded) (RowHolds i (Op o l r) 0 0) (RowFits (now (rule .entry)) (Op o l r)) (OwnPlain i (Op o l r)) a) ⌝ }
 {
     if !unification::make_int(typeparent, kind, layout::row_type(l)) {
         return Verdict::Shapes;
@@ -89,26 +98,37 @@ fn op_row(
     let result = scheme::result(o, class as u16) as usize;
     forest::put_under(qualifierparent, layout::row_qualifier(i), result);
     if qualifiers::restrict(rule, bound, class, scheme::highest_in(rule, o)) {
-        Verdict::Fine
+        Verdict::Fine(n)
     } else {
         Verdict::Broken
     }
 }
 
-// Whether making two nodes' types one can make a type that contains itself: they are two, and one is an arrow. To search where there is no need
-// does no harm, and a type that is missed here is found at the end.
-fn can_close(typeparent: &[u16; NODES], kind: &[u16; NODES], x: usize, y: usize) -> bool
+// Whether making two nodes' types one can make an arrow of an unknown type: they are two, and one is an arrow. Only then can it make a type that
+// contains itself, too. Where it can't, the root that the two will have is marked, as pairs of both are pending under it from now on.
+fn makes_arrows(
+    typeparent: &[u16; NODES],
+    kind: &[u16; NODES],
+    crowded: &mut [u8; NODES],
+    x: usize,
+    y: usize,
+) -> bool
     requires { ⌜ TypeClasses (typesOf (now typeparent) (now kind)) ⌝ ∗ ⌜ (x < nodes) × (y < nodes) ⌝ }
+    ensures { λ r. ⌜ Foreseen (typesOf (now (typeparent .entry)) (now (kind .entry))) (now (crowded .entry)) (now (crowded .exit)) x y r ⌝ }
 {
     let a = forest::find(typeparent, x);
     let b = forest::find(typeparent, y);
-    if a == b {
-        return false;
+    if a != b {
+        if FIRST_ARROW <= kind[a] {
+            return true;
+        }
+        if FIRST_ARROW <= kind[b] {
+            return true;
+        }
     }
-    if FIRST_ARROW <= kind[a] {
-        return true;
-    }
-    FIRST_ARROW <= kind[b]
+    crowded[a] = 1;
+    crowded[b] = 1;
+    false
 }
 
 // Makes the types of two nodes one. Where that can make a type that contains itself the types are kept, and put back if it does or if they clash.
@@ -121,12 +141,14 @@ fn unify_kept(
     n: usize,
     x: usize,
     y: usize,
+    closes: bool,
 ) -> Joining
     requires { ⌜ TypeClasses (typesOf (now typeparent) (now kind)) ⌝ ∗ ⌜ Parts (now kids) ⌝ ∗ ⌜ PairRoom (now typeparent) (notesOf (now left) (now right)) n ⌝ ∗ ⌜ (x < nodes) × (y < nodes) ⌝ }
     ensures { λ r. ⌜ Enforces (now (kids .entry)) (typesOf (now (typeparent .entry)) (now (kind .entry))) (notesOf (now (left .entry)) (now (right .entry))) (typesOf (now (typeparent .exit)) (now (kind .exit))) (notesOf (now (left .exit)) (now (right .exit))) n (Same x y) r ⌝
-        ∗ ⌜ ((m : ℕ) → x < m → y < m → Confined m (now (kids .entry)) (typesOf (now (typeparent .entry)) (now (kind .entry))) (notesOf (now (left .entry)) (now (right .entry))) (typesOf (now (typeparent .exit)) (now (kind .exit))) (notesOf (now (left .exit)) (now (right .exit))) n r) ⌝ }
+        ∗ ⌜ ((m : ℕ) → x < m → y < m → Confined m (now (kids .entry)) (typesOf (now (typeparent .entry)) (now (kind .entry))) (notesOf (now (left .entry)) (now (right .entry))) (typesOf (now (typeparent .exit)) (now (kind .exit))) (notesOf (now (left .exit)) (now (right .exit))) n r) ⌝
+        ∗ ⌜ (closes ≡ false → Quiet (typesOf (now (typeparent .entry)) (now (kind .entry))) (typesOf (now (typeparent .exit)) (now (kind .exit))) x y) ⌝ }
 {
-    if !can_close(typeparent, kind, x, y) {
+    if !closes {
         return unification::unify(typeparent, kind, kids, left, right, n, x, y);
     }
     let typeparent_before = *typeparent;
@@ -168,37 +190,28 @@ fn bind(
     false
 }
 
-// The equation of an APP row. A function that is unknown becomes the arrow of the row. Where it is an arrow, the row's own node, which is new, is put
-// under the arrow's result, and the row's argument made one with the arrow's.
-fn apply(
+// The equation of a call of the arrow of descriptor d: the row's own node, which is new, is put under the arrow's result, and the row's argument
+// made one with the arrow's.
+fn call(
     typeparent: &mut [u16; NODES],
     kind: &mut [u16; NODES],
     kids: &[u16; PART_PLACES],
     left: &mut [u16; PAIR_PLACES],
     right: &mut [u16; PAIR_PLACES],
     i: usize,
-    f: usize,
     a: usize,
+    d: usize,
+    closes: bool,
 ) -> Joining
     requires { ⌜ TypeClasses (typesOf (now typeparent) (now kind)) ⌝
         ∗ ⌜ Parts (now kids) ⌝
-        ∗ ⌜ (i < 256) × (f < i) × (a < i) × Describes (now kids) i (App f a) 0 0 ⌝
+        ∗ ⌜ (i < 256) × (a < i) × Within (rowType i) (now kids) d ⌝
         ∗ ⌜ Unused (rowType i) (typesOf (now typeparent) (now kind)) (now kids) ⌝ }
-    ensures { λ r. ⌜ Enforces (now (kids .entry)) (typesOf (now (typeparent .entry)) (now (kind .entry))) (notesOf (now (left .entry)) (now (right .entry))) (typesOf (now (typeparent .exit)) (now (kind .exit))) (notesOf (now (left .exit)) (now (right .exit))) 0 (RowHolds i (App f a) 0 0) r ⌝
-        ∗ ⌜ Confined (rowType (i + 1)) (now (kids .entry)) (typesOf (now (typeparent .entry)) (now (kind .entry))) (notesOf (now (left .entry)) (now (right .entry))) (typesOf (now (typeparent .exit)) (now (kind .exit))) (notesOf (now (left .exit)) (now (right .exit))) 0 r ⌝ }
+    ensures { λ r. ⌜ Enforces (now (kids .entry)) (typesOf (now (typeparent .entry)) (now (kind .entry))) (notesOf (now (left .entry)) (now (right .entry))) (typesOf (now (typeparent .exit)) (now (kind .exit))) (notesOf (now (left .exit)) (now (right .exit))) 0 (Calls (now (kids .entry)) d i a) r ⌝
+        ∗ ⌜ Confined (rowType (i + 1)) (now (kids .entry)) (typesOf (now (typeparent .entry)) (now (kind .entry))) (notesOf (now (left .entry)) (now (right .entry))) (typesOf (now (typeparent .exit)) (now (kind .exit))) (notesOf (now (left .exit)) (now (right .exit))) 0 r ⌝
+        ∗ ⌜ (closes ≡ false → Calm (typesOf (now (typeparent .entry)) (now (kind .entry))) (rowType a) (argument (now (kids .entry)) d) →
+        Steady (rowType i) (typesOf (now (typeparent .entry)) (now (kind .entry))) (typesOf (now (typeparent .exit)) (now (kind .exit))) (RootOfEither (typesOf (now (typeparent .entry)) (now (kind .entry))) (rowType a) (argument (now (kids .entry)) d))) ⌝ }
 {
-    let function = forest::root(typeparent, layout::row_type(f));
-    let k = kind[function];
-    if k == UNKNOWN {
-        if bind(typeparent, kind, kids, i, function, layout::row_type(a)) {
-            return Joining::Pairs(0);
-        }
-        return Joining::Clash;
-    }
-    if k == INT {
-        return Joining::Clash;
-    }
-    let d = k as usize - FIRST_ARROW as usize;
     forest::put_under_root(typeparent, layout::row_type(i), graph::part(kids, d, 3));
     let one = unification::note(
         left,
@@ -223,7 +236,176 @@ fn apply(
         two,
         layout::row_type(a),
         graph::part(kids, d, 1),
+        closes,
     )
+}
+
+// An APP row whose function is the arrow of descriptor d.
+fn call_row(
+    rule: &[u8; RULE],
+    qualifierparent: &mut [u16; NODES],
+    bound: &mut [u8; NODES],
+    typeparent: &mut [u16; NODES],
+    kind: &mut [u16; NODES],
+    kids: &[u16; PART_PLACES],
+    left: &mut [u16; PAIR_PLACES],
+    right: &mut [u16; PAIR_PLACES],
+    pairqualifier: &mut [u16; PAIR_PLACES],
+    pairtype: &mut [u16; PAIR_PLACES],
+    crowded: &mut [u8; NODES],
+    n: usize,
+    i: usize,
+    a: usize,
+    d: usize,
+) -> Verdict
+    requires { ⌜ TypeClasses (typesOf (now typeparent) (now kind)) ⌝
+        ∗ ⌜ Parts (now kids) ⌝
+        ∗ ⌜ Classes (now rule) (qualifiersOf (now qualifierparent) (now bound)) ⌝
+        ∗ ⌜ (i < 256) × (a < i) × InUse (now kind) d ⌝
+        ∗ ⌜ Ready (now rule) i (now kids) (typesOf (now typeparent) (now kind)) (qualifiersOf (now qualifierparent) (now bound)) (pendingOf (now pairqualifier) (now pairtype) (now crowded) n) ⌝ }
+    ensures { λ r. ⌜ Stepped (now (rule .entry)) i (now (kids .entry))
+        (typesOf (now (typeparent .entry)) (now (kind .entry))) (qualifiersOf (now (qualifierparent .entry)) (now (bound .entry))) (pendingOf (now (pairqualifier .entry)) (now (pairtype .entry)) (now (crowded .entry)) n)
+        (leftOf (now (typeparent .exit)) (now (kind .exit)) (now (qualifierparent .exit)) (now (bound .exit)) (now (pairqualifier .exit)) (now (pairtype .exit)) (now (crowded .exit)))
+        (Calls (now (kids .entry)) d i a) (λ v. Unit {0}) (PlainAtRow i) r ⌝ }
+{
+    let closes = makes_arrows(
+        typeparent,
+        kind,
+        crowded,
+        layout::row_type(a),
+        graph::part(kids, d, 1),
+    );
+    match call(typeparent, kind, kids, left, right, i, a, d, closes) {
+        Joining::Pairs(m) => {
+            if !qualifiers::unite_all(rule, qualifierparent, bound, left, right, m) {
+                return Verdict::Apart;
+            }
+            let mut pending = n;
+            if closes {
+                match pending::look_through(
+                    rule,
+                    qualifierparent,
+                    bound,
+                    typeparent,
+                    kind,
+                    pairqualifier,
+                    pairtype,
+                    crowded,
+                    n,
+                ) {
+                    Sweep::Kept(kept) => {
+                        pending = kept;
+                    }
+                    Sweep::Apart => {
+                        return Verdict::Apart;
+                    }
+                }
+            }
+            if qualifiers::within_bounds(rule, bound) {
+                Verdict::Fine(pending)
+            } else {
+                Verdict::Broken
+            }
+        }
+        Joining::Clash => Verdict::Shapes,
+        Joining::Lost => Verdict::Lost,
+    }
+}
+
+// The root of an unknown function has become an arrow: makes PLAIN what stands with it.
+fn function_plain(
+    rule: &[u8; RULE],
+    qualifierparent: &mut [u16; NODES],
+    bound: &mut [u8; NODES],
+    typeparent: &[u16; NODES],
+    kind: &[u16; NODES],
+    pairqualifier: &mut [u16; PAIR_PLACES],
+    pairtype: &mut [u16; PAIR_PLACES],
+    crowded: &mut [u8; NODES],
+    n: usize,
+    function: usize,
+) -> Sweep
+    requires { ⌜ Classes (now rule) (qualifiersOf (now qualifierparent) (now bound)) ⌝
+        ∗ ⌜ TypeClasses (typesOf (now typeparent) (now kind)) ⌝
+        ∗ ⌜ Pairs (notesOf (now pairqualifier) (now pairtype)) n ⌝
+        ∗ ⌜ (length (now crowded) ≡ nodes) × (function < rowType 256) ⌝ }
+    ensures { λ r. ⌜ MadePlain (now (rule .entry)) (typesOf (now (typeparent .entry)) (now (kind .entry)))
+        (qualifiersOf (now (qualifierparent .entry)) (now (bound .entry))) (qualifiersOf (now (qualifierparent .exit)) (now (bound .exit)))
+        (pendingOf (now (pairqualifier .entry)) (now (pairtype .entry)) (now (crowded .entry)) n)
+        (now (pairqualifier .exit)) (now (pairtype .exit)) (now (crowded .exit)) function r ⌝ }
+{
+    if 0 < crowded[function] {
+        return pending::look_through(
+            rule,
+            qualifierparent,
+            bound,
+            typeparent,
+            kind,
+            pairqualifier,
+            pairtype,
+            crowded,
+            n,
+        );
+    }
+    if layout::row_type(0) <= function {
+        let own = layout::row_qualifier(function - layout::row_type(0));
+        if qualifiers::unite(rule, qualifierparent, bound, own, 0) == qualifiers::APART {
+            return Sweep::Apart;
+        }
+    }
+    Sweep::Kept(n)
+}
+
+// An APP row whose function is unknown: its root becomes the arrow of the row, and the row's own pair is pending.
+fn bind_row(
+    rule: &[u8; RULE],
+    qualifierparent: &mut [u16; NODES],
+    bound: &mut [u8; NODES],
+    typeparent: &[u16; NODES],
+    kind: &mut [u16; NODES],
+    kids: &[u16; PART_PLACES],
+    pairqualifier: &mut [u16; PAIR_PLACES],
+    pairtype: &mut [u16; PAIR_PLACES],
+    crowded: &mut [u8; NODES],
+    n: usize,
+    i: usize,
+    function: usize,
+    a: usize,
+) -> Verdict
+    requires { ⌜ TypeClasses (typesOf (now typeparent) (now kind)) ⌝
+        ∗ ⌜ Parts (now kids) ⌝
+        ∗ ⌜ Classes (now rule) (qualifiersOf (now qualifierparent) (now bound)) ⌝
+        ∗ ⌜ (i < 256) × (a < i) × (function < rowType i) × UnknownRoot (typesOf (now typeparent) (now kind)) function × HasParts (now kids) (rowType i) (rowQualifier a) (rowType a) (rowQualifier i) (rowType i) ⌝
+        ∗ ⌜ Ready (now rule) i (now kids) (typesOf (now typeparent) (now kind)) (qualifiersOf (now qualifierparent) (now bound)) (pendingOf (now pairqualifier) (now pairtype) (now crowded) n) ⌝ }
+    ensures { λ r. ⌜ Stepped (now (rule .entry)) i (now (kids .entry))
+        (typesOf (now (typeparent .entry)) (now (kind .entry))) (qualifiersOf (now (qualifierparent .entry)) (now (bound .entry))) (pendingOf (now (pairqualifier .entry)) (now (pairtype .entry)) (now (crowded .entry)) n)
+        (leftOf (now (typeparent .entry)) (now (kind .exit)) (now (qualifierparent .exit)) (now (bound .exit)) (now (pairqualifier .exit)) (now (pairtype .exit)) (now (crowded .exit)))
+        (NodeArrow (now (kids .entry)) function (rowType i)) (λ v. Unit {0}) (PlainAtRow i) r ⌝ }
+{
+    if !bind(typeparent, kind, kids, i, function, layout::row_type(a)) {
+        return Verdict::Shapes;
+    }
+    match function_plain(
+        rule,
+        qualifierparent,
+        bound,
+        typeparent,
+        kind,
+        pairqualifier,
+        pairtype,
+        crowded,
+        n,
+        function,
+    ) {
+        Sweep::Kept(kept) => Verdict::Fine(unification::note(
+            pairqualifier,
+            pairtype,
+            kept,
+            layout::row_qualifier(i),
+            layout::row_type(i),
+        )),
+        Sweep::Apart => Verdict::Apart,
+    }
 }
 
 // An APP row: its function is the arrow from its argument to itself.
@@ -236,6 +418,10 @@ fn app_row(
     kids: &[u16; PART_PLACES],
     left: &mut [u16; PAIR_PLACES],
     right: &mut [u16; PAIR_PLACES],
+    pairqualifier: &mut [u16; PAIR_PLACES],
+    pairtype: &mut [u16; PAIR_PLACES],
+    crowded: &mut [u8; NODES],
+    n: usize,
     i: usize,
     f: usize,
     a: usize,
@@ -244,25 +430,51 @@ fn app_row(
         ∗ ⌜ Parts (now kids) ⌝
         ∗ ⌜ Classes (now rule) (qualifiersOf (now qualifierparent) (now bound)) ⌝
         ∗ ⌜ (i < 256) × (f < i) × (a < i) × Describes (now kids) i (App f a) 0 0 ⌝
-        ∗ ⌜ Ready (now rule) i (now kids) (typesOf (now typeparent) (now kind)) (qualifiersOf (now qualifierparent) (now bound)) ⌝ }
+        ∗ ⌜ Ready (now rule) i (now kids) (typesOf (now typeparent) (now kind)) (qualifiersOf (now qualifierparent) (now bound)) (pendingOf (now pairqualifier) (now pairtype) (now crowded) n) ⌝ }
     ensures { λ r. ⌜ Stepped (now (rule .entry)) i (now (kids .entry))
-        (typesOf (now (typeparent .entry)) (now (kind .entry))) (qualifiersOf (now (qualifierparent .entry)) (now (bound .entry)))
-        (typesOf (now (typeparent .exit)) (now (kind .exit))) (qualifiersOf (now (qualifierparent .exit)) (now (bound .exit))) (RowHolds i (App f a) 0 0) (RowFits (now (rule .entry)) (App f a)) r ⌝ }
+        (typesOf (now (typeparent .entry)) (now (kind .entry))) (qualifiersOf (now (qualifierparent .entry)) (now (bound .entry))) (pendingOf (now (pairqualifier .entry)) (now (pairtype .entry)) (now (crowded .entry)) n)
+        (leftOf (now (typeparent .exit)) (now (kind .exit)) (now (qualifierparent .exit)) (now (bound .exit)) (now (pairqualifier .exit)) (now (pairtype .exit)) (now (crowded .exit)))
+        (RowHolds i (App f a) 0 0) (RowFits (now (rule .entry)) (App f a)) (OwnPlain i (App f a)) r ⌝ }
 {
-    match apply(typeparent, kind, kids, left, right, i, f, a) {
-        Joining::Pairs(n) => {
-            if !qualifiers::unite_all(rule, qualifierparent, bound, left, right, n) {
-                return Verdict::Apart;
-            }
-            if qualifiers::within_bounds(rule, bound) {
-                Verdict::Fine
-            } else {
-                Verdict::Broken
-            }
-        }
-        Joining::Clash => Verdict::Shapes,
-        Joining::Lost => Verdict::Lost,
+    let function = forest::root(typeparent, layout::row_type(f));
+    let k = kind[function];
+    if k == UNKNOWN {
+        return bind_row(
+            rule,
+            qualifierparent,
+            bound,
+            typeparent,
+            kind,
+            kids,
+            pairqualifier,
+            pairtype,
+            crowded,
+            n,
+            i,
+            function,
+            a,
+        );
     }
+    if k == INT {
+        return Verdict::Shapes;
+    }
+    call_row(
+        rule,
+        qualifierparent,
+        bound,
+        typeparent,
+        kind,
+        kids,
+        left,
+        right,
+        pairqualifier,
+        pairtype,
+        crowded,
+        n,
+        i,
+        a,
+        k as usize - FIRST_ARROW as usize,
+    )
 }
 
 // Takes row i into the state; the arrays hold the nodes of the parameters. Types come before qualifiers, and qualifiers before bounds: 21 is before
@@ -276,6 +488,10 @@ pub fn step(
     kids: &[u16; PART_PLACES],
     left: &mut [u16; PAIR_PLACES],
     right: &mut [u16; PAIR_PLACES],
+    pairqualifier: &mut [u16; PAIR_PLACES],
+    pairtype: &mut [u16; PAIR_PLACES],
+    crowded: &mut [u8; NODES],
+    n: usize,
     i: usize,
     term: Term,
     qualifiers: &[u8; PARAMS],
@@ -285,10 +501,11 @@ pub fn step(
         ∗ ⌜ Parts (now kids) ⌝
         ∗ ⌜ Classes (now rule) (qualifiersOf (now qualifierparent) (now bound)) ⌝
         ∗ ⌜ RowStands i term (nodeNamed (now qualifiers) term) (nodeNamed (now typerows) term) × Describes (now kids) i term (nodeNamed (now qualifiers) term) (nodeNamed (now typerows) term) ⌝
-        ∗ ⌜ Ready (now rule) i (now kids) (typesOf (now typeparent) (now kind)) (qualifiersOf (now qualifierparent) (now bound)) ⌝ }
+        ∗ ⌜ Ready (now rule) i (now kids) (typesOf (now typeparent) (now kind)) (qualifiersOf (now qualifierparent) (now bound)) (pendingOf (now pairqualifier) (now pairtype) (now crowded) n) ⌝ }
     ensures { λ r. ⌜ Stepped (now (rule .entry)) i (now (kids .entry))
-        (typesOf (now (typeparent .entry)) (now (kind .entry))) (qualifiersOf (now (qualifierparent .entry)) (now (bound .entry)))
-        (typesOf (now (typeparent .exit)) (now (kind .exit))) (qualifiersOf (now (qualifierparent .exit)) (now (bound .exit))) (RowHolds i term (nodeNamed (now (qualifiers .entry)) term) (nodeNamed (now (typerows .entry)) term)) (RowFits (now (rule .entry)) term) r ⌝ }
+        (typesOf (now (typeparent .entry)) (now (kind .entry))) (qualifiersOf (now (qualifierparent .entry)) (now (bound .entry))) (pendingOf (now (pairqualifier .entry)) (now (pairtype .entry)) (now (crowded .entry)) n)
+        (leftOf (now (typeparent .exit)) (now (kind .exit)) (now (qualifierparent .exit)) (now (bound .exit)) (now (pairqualifier .exit)) (now (pairtype .exit)) (now (crowded .exit)))
+        (RowHolds i term (nodeNamed (now (qualifiers .entry)) term) (nodeNamed (now (typerows .entry)) term)) (RowFits (now (rule .entry)) term) (OwnPlain i term) r ⌝ }
 {
     match term {
         Term::Lam(_, _) => {
@@ -299,7 +516,7 @@ pub fn step(
                 0,
                 layout::arrow(layout::row_type(i)),
             );
-            Verdict::Fine
+            Verdict::Fine(n)
         }
         Term::App(f, a) => app_row(
             rule,
@@ -310,6 +527,10 @@ pub fn step(
             kids,
             left,
             right,
+            pairqualifier,
+            pairtype,
+            crowded,
+            n,
             i,
             f as usize,
             a as usize,
@@ -320,6 +541,7 @@ pub fn step(
             bound,
             typeparent,
             kind,
+            n,
             i,
             o,
             l as usize,
@@ -336,16 +558,16 @@ pub fn step(
                 layout::row_qualifier(i),
                 qualifiers[p as usize] as usize,
             );
-            Verdict::Fine
+            Verdict::Fine(n)
         }
         // Under its own node a literal's qualifier is a class of its own.
         Term::Num(_) => {
             known_row(qualifierparent, kind, i, layout::row_qualifier(i), INT);
-            Verdict::Fine
+            Verdict::Fine(n)
         }
         Term::Enc(s, _) => {
             known_row(qualifierparent, kind, i, s as usize, INT);
-            Verdict::Fine
+            Verdict::Fine(n)
         }
     }
 }
