@@ -1,15 +1,17 @@
 -- The pairs of the lines T and P, gathered into two lists: the qualifier's node left, the type's right. A pair whose type is INT asks for nothing.
-use Prim.Native.Nat.{ℕ, _+_, _*_, _<_, _≤_}
+use Prim.Native.Nat.{ℕ, _+_, _<_, _≤_}
 use mathlib.Core.List.{List}
 use mathlib.Core.Logic.{_⊎_}
 use mathlib.Core.Path.{_≡_}
 use lib.ListN.{getD}
 use Rattle.model.specs.Machine.{formIn}
-use Rattle.model.specs.declared.TypeForm.the-variants.{Arrow}
+use Rattle.model.specs.declared.TypeForm.{TypeForm}
+use Rattle.model.specs.declared.TypeForm.the-variants.{Int, Any, Arrow}
 use Rattle.model.specs.declared.TypeRow.{TypeRow}
 use Rattle.layout.specs.Kinds.{intKind}
 use Rattle.forest.specs.Pairs.{Notes, leftAt, rightAt}
 use Rattle.graph.specs.Types.{kindAt}
+use Rattle.unification.specs.Noted.{Noted}
 
 -- A pair of one of the first type rows.
 pub data FormPair (types : List TypeRow) (count : ℕ) : ℕ → ℕ → Type 0 where
@@ -29,3 +31,23 @@ pub record Gathered (S : ℕ → ℕ → Type 0) (k : List ℕ) (N : Notes) (fir
 -- The places before n are as they were.
 abbrev pub Earlier : Notes → Notes → ℕ → Type 0
 Earlier N N′ n = (j : ℕ) → j < n → (leftAt N′ j ≡ leftAt N j) × (rightAt N′ j ≡ rightAt N j)
+
+-- One pair: it was noted behind the first n; or its type is INT, and nothing changed.
+pub data Added (k : List ℕ) (N N′ : Notes) (n q x n′ : ℕ) : Type 0 where
+  noted : Noted N N′ n q x n′ → Added k N N′ n q x n′
+  left-out : N′ ≡ N → n′ ≡ n → kindAt k x ≡ intKind → Added k N N′ n q x n′
+
+-- A pair is that of q and x; or it is one of a type row.
+abbrev pub OnePair : ℕ → ℕ → ℕ → ℕ → Type 0
+OnePair q x q′ x′ = (q′ ≡ q) × (x′ ≡ x)
+
+abbrev pub PairOf : TypeForm → ℕ → ℕ → Type 0
+PairOf Int s x = ⊥
+PairOf Any s x = ⊥
+PairOf (Arrow q a q′ b) s x = OnePair q a s x ⊎ OnePair q′ b s x
+
+-- The pairs of the sort S were added behind the first n, at most so many.
+pub record Adds (S : ℕ → ℕ → Type 0) (k : List ℕ) (N N′ : Notes) (n most n′ : ℕ) : Type 0 where
+  pub gathered : Gathered S k N′ n n′
+  pub few : n′ ≤ n + most
+  pub earlier : Earlier N N′ n

@@ -1,17 +1,17 @@
 // Pairs of a qualifier and an unknown type that stand together: once the type is an arrow the qualifier is PLAIN.
 pub mod lines;
 pub mod shapes;
+
 use layout::FIRST_ARROW;
-use layout::INT;
 use layout::NODES;
 use layout::PAIR_PLACES;
 use layout::UNKNOWN;
 use scheme::RULE;
 ghost use mathlib.Core.Logic.{_⊎_};
 ghost use mathlib.Core.Path.{_≡_};
-ghost use Prim.Native.Nat.{ℕ, _+_, _<_, _≤_};
-ghost use lib.ListN.{length, getD, set};
-ghost use Rattle.layout.specs.Layout.{nodes, rowType};
+ghost use Prim.Native.Nat.{_<_, _≤_};
+ghost use lib.ListN.{length, set};
+ghost use Rattle.layout.specs.Layout.{nodes, rowType, qualifiersFrom};
 ghost use Rattle.forest.specs.Pairs.{Pairs, notesOf};
 ghost use Rattle.graph.specs.Types.{TypeClasses, typesOf};
 ghost use Rattle.qualifiers.specs.Classes.{Classes, qualifiersOf};
@@ -23,14 +23,16 @@ pub enum Sweep {
     Apart,
 }
 
-// Marks a root under which a pair of another node lies. A term row's own pair is found without a mark, a type row's is not.
-fn mark(crowded: &mut [u8; NODES], x: usize, r: usize)
-    requires { ⌜ r < nodes ⌝ }
-    ensures { λ _. ⌜ ((rowType 0 ≤ r) × (x ≡ r) × (now (crowded .exit) ≡ now (crowded .entry))) ⊎ (now (crowded .exit) ≡ set (now (crowded .entry)) r 1) ⌝ }
+// Marks a root under which a pair lies that is not the root's own. A term row's own pair is found without a mark, a type row's is not.
+fn mark(crowded: &mut [u8; NODES], q: usize, x: usize, r: usize)
+    requires { ⌜ (q < nodes) × (r < nodes) ⌝ }
+    ensures { λ _. ⌜ ((now (crowded .exit) ≡ now (crowded .entry)) × (rowType 0 ≤ r) × (x ≡ r) × (q ≡ qualifiersFrom r)) ⊎ (now (crowded .exit) ≡ set (now (crowded .entry)) r 1) ⌝ }
 {
     if x == r {
         if layout::row_type(0) <= r {
-            return;
+            if layout::row_type(0) + q == layout::row_qualifier(0) + r {
+                return;
+            }
         }
     }
     crowded[r] = 1;
@@ -62,17 +64,17 @@ pub fn look_through(
     while j < n {
         let q = pairqualifier[j] as usize;
         let x = pairtype[j] as usize;
+        j += 1;
         let r = forest::find(typeparent, x);
         let k = kind[r];
         if k == UNKNOWN {
-            mark(crowded, x, r);
+            mark(crowded, q, x, r);
             kept = unification::note(pairqualifier, pairtype, kept, q, x);
-        } else if k != INT {
+        } else if FIRST_ARROW <= k {
             if qualifiers::unite(rule, qualifierparent, bound, q, 0) == qualifiers::APART {
                 return Sweep::Apart;
             }
         }
-        j += 1;
     }
     Sweep::Kept(kept)
 }

@@ -6,14 +6,13 @@ use model::PARAMS;
 use model::TYPES;
 use model::TypeForm;
 use model::TypeRow;
-ghost use mathlib.Core.Path.{_≡_};
 ghost use Prim.Native.Nat.{ℕ, _+_, _*_, _<_, _≤_};
-ghost use lib.ListN.{length, getD};
+ghost use lib.ListN.{getD};
 ghost use Rattle.layout.specs.Layout.{nodes, pairPlaces, rowType, rowQualifier};
+ghost use Rattle.model.specs.WellFormed.{TypeStands};
 ghost use Rattle.forest.specs.Pairs.{notesOf};
-ghost use Rattle.graph.specs.Types.{kindAt};
 ghost use Rattle.setup.specs.Passes.{FormsStand};
-ghost use Rattle.pending.specs.Lines.{FormPair, ParamPair, Gathered, Earlier};
+ghost use Rattle.pending.specs.Lines.{FormPair, ParamPair, Gathered, Earlier, Added, PairOf, Adds};
 
 // Adds a pair behind the first n, unless its type is INT.
 fn add(
@@ -25,6 +24,7 @@ fn add(
     x: usize,
 ) -> usize
     requires { ⌜ (n < pairPlaces) × (q < nodes) × (x < nodes) ⌝ }
+    ensures { λ r. ⌜ Added (now (kind .entry)) (notesOf (now (pairqualifier .entry)) (now (pairtype .entry))) (notesOf (now (pairqualifier .exit)) (now (pairtype .exit))) n q x r ⌝ }
 {
     if kind[x] == INT {
         return n;
@@ -32,7 +32,28 @@ fn add(
     unification::note(pairqualifier, pairtype, n, q, x)
 }
 
-// Adds the pairs of the first type rows: two of each ARROW row, also of one that nothing names.
+// Adds the two pairs of a type row that is an ARROW.
+fn add_form(
+    form: TypeForm,
+    kind: &[u16; NODES],
+    pairqualifier: &mut [u16; PAIR_PLACES],
+    pairtype: &mut [u16; PAIR_PLACES],
+    n: usize,
+) -> usize
+    requires { ⌜ (n + 2 ≤ pairPlaces) × TypeStands 9 64 form ⌝ }
+    ensures { λ r. ⌜ Adds (PairOf form) (now (kind .entry)) (notesOf (now (pairqualifier .entry)) (now (pairtype .entry))) (notesOf (now (pairqualifier .exit)) (now (pairtype .exit))) n 2 r ⌝ }
+{
+    match form {
+        TypeForm::Int => n,
+        TypeForm::Any => n,
+        TypeForm::Arrow(q, a, r, b) => {
+            let one = add(kind, pairqualifier, pairtype, n, q as usize, a as usize);
+            add(kind, pairqualifier, pairtype, one, r as usize, b as usize)
+        }
+    }
+}
+
+// Adds the pairs of the first type rows, also of one that nothing names.
 pub fn add_types(
     types: [TypeRow; TYPES],
     count: usize,
@@ -48,21 +69,7 @@ pub fn add_types(
     while x < count {
         let row = types[x];
         let form = row.form;
-        match form {
-            TypeForm::Int => {}
-            TypeForm::Any => {}
-            TypeForm::Arrow(q, a, r, b) => {
-                let one = add(
-                    kind,
-                    pairqualifier,
-                    pairtype,
-                    n,
-                    q as usize,
-                    a as usize,
-                );
-                n = add(kind, pairqualifier, pairtype, one, r as usize, b as usize);
-            }
-        }
+        n = add_form(form, kind, pairqualifier, pairtype, n);
         x += 1;
     }
     n

@@ -5,15 +5,40 @@ use layout::PAIR_PLACES;
 use layout::UNKNOWN;
 use scheme::RULE;
 ghost use mathlib.Core.List.{List};
-ghost use mathlib.Core.Path.{_≡_};
 ghost use Prim.Native.Nat.{ℕ, _<_};
-ghost use lib.ListN.{length};
 ghost use Rattle.layout.specs.Layout.{nodes};
+ghost use Rattle.forest.specs.Forest.{Forest};
 ghost use Rattle.forest.specs.Pairs.{Pairs, notesOf};
 ghost use Rattle.graph.specs.Types.{TypeClasses, typesOf};
 ghost use Rattle.qualifiers.specs.Classes.{Classes, qualifiersOf};
 ghost use Rattle.pending.specs.Pending.{pendingOf};
-ghost use Rattle.pending.specs.Shapes.{Fixed};
+ghost use Rattle.pending.specs.Shapes.{Fixed, PairFixed};
+
+// Makes the type of a pair INT, if it is unknown and a scheme stands with it: one of the constants but PLAIN, of which there are `words`.
+fn fix_pair(
+    words: usize,
+    qualifierparent: &[u16; NODES],
+    typeparent: &[u16; NODES],
+    kind: &mut [u16; NODES],
+    q: usize,
+    x: usize,
+)
+    requires { ⌜ Forest (now qualifierparent) ⌝ ∗ ⌜ TypeClasses (typesOf (now typeparent) (now kind)) ⌝ ∗ ⌜ (q < nodes) × (x < nodes) ⌝ }
+    ensures { λ _. ⌜ PairFixed words (now (qualifierparent .entry)) (now (typeparent .entry)) (now (kind .entry)) q x (now (kind .exit)) ⌝ }
+{
+    let r = forest::find(typeparent, x);
+    if kind[r] != UNKNOWN {
+        return;
+    }
+    let s = forest::find(qualifierparent, q);
+    if s == 0 {
+        return;
+    }
+    if words <= s {
+        return;
+    }
+    kind[r] = INT;
+}
 
 // Makes INT each unknown type with which a scheme stands. Not before the end: stored earlier it would make a 22 a 21.
 pub fn fix(
@@ -35,15 +60,9 @@ pub fn fix(
     let words = scheme::words(rule);
     let mut j: usize = 0;
     while j < n {
-        let r = forest::find(typeparent, pairtype[j] as usize);
-        if kind[r] == UNKNOWN {
-            let s = forest::find(qualifierparent, pairqualifier[j] as usize);
-            if 0 < s {
-                if s < words {
-                    kind[r] = INT;
-                }
-            }
-        }
+        let q = pairqualifier[j] as usize;
+        let x = pairtype[j] as usize;
+        fix_pair(words, qualifierparent, typeparent, kind, q, x);
         j += 1;
     }
 }

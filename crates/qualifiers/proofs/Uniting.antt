@@ -15,7 +15,7 @@ use Rattle.scheme.proofs.Rule.{meet-is-left}
 use Rattle.forest.specs.Forest.{up, Forest, Linked, Reach, here, further, Found, Rooted, Hung, TwoRoots}
 use Rattle.forest.specs.Pairs.{PairsBelow, notesOf}
 use Rattle.forest.proofs.Links.{by-eq, up-same, up-other, linked-into, linked-outof, linked-joins, root-reaches, reach-same, shorter-into, shorter-outof}
-use Rattle.qualifiers.specs.Classes.{boundAt, Classes, Untouched, United, Class, UnitedAll, qualifiersOf}
+use Rattle.qualifiers.specs.Classes.{Qualifiers, boundAt, Classes, Untouched, Imposed, United, Class, UnitedAll, qualifiersOf}
 use Rattle.qualifiers.proofs.Bounds.{sinks-along, put-under-keeps, put-under-stays, lowered, lowered-stays}
 
 -- A node put directly under its root: roots, bounds and readings stay.
@@ -238,20 +238,25 @@ united-below found u =
       stays = λ m below. u .stays m (below .0, omega (arith, found .low, below));
     }
 
+-- What holds of every reading is imposed by nothing.
+pub imposed-none : {R : List ℕ} {Q : Qualifiers} {E : (ℕ → ℕ) → Type 0} {Below : ℕ → Type 0} → Classes R Q → ((v : ℕ → ℕ) → E v) → Imposed R Q Q E Below true
+imposed-none k holds =
+    record {
+      classes = k;
+      into = λ _ v linked _. linked;
+      outof = λ _ v linked. (linked, holds v);
+      bounds-into = λ _ v linked bounded. bounded;
+      bounds-outof = λ _ v linked bounded. bounded;
+      clash = λ e. absurd (true≢false e);
+      stays = λ m _ untouched. untouched;
+    }
+
 -- A root that is put under itself stays a class of its own.
 united-self : {R p p′ b : List ℕ} {x : ℕ} → Classes R (qualifiersOf p b) → up p x ≡ x → Hung p p′ x x → United R (qualifiersOf p b) (qualifiersOf p′ b) x x true
 united-self {R} {p} {b = b} {x} k root hung =
     subst (λ (l : List ℕ). United R (qualifiersOf p b) (qualifiersOf l b) x x true)
     (sym (hung .under ∙ ap (set p x) (root-reaches root (hung .found .reached) ∙ sym root) ∙ set-getD p x 0))
-    (record {
-      classes = k;
-      into = λ _ v linked _. linked;
-      outof = λ _ v linked. (linked, refl);
-      bounds-into = λ _ v linked bounded. bounded;
-      bounds-outof = λ _ v linked bounded. bounded;
-      clash = λ e. absurd (true≢false e);
-      stays = λ m _ untouched. untouched;
-    })
+    (imposed-none k (λ v. refl))
 
 module _ {R p p′ b : List ℕ} {x y : ℕ} (k : Classes R (qualifiersOf p b)) (free : wordsAt R ≤ x) (node : x < nodes) (root : up p x ≡ x) (unbound : boundAt b x ≡ topAt R) where
   new-above : y < x → Hung p p′ x y → United R (qualifiersOf p b) (qualifiersOf p′ b) x y true
@@ -271,50 +276,45 @@ module _ {R p p′ b : List ℕ} {x y : ℕ} (k : Classes R (qualifiersOf p b)) 
 pub untouched-more : {R p b : List ℕ} {m n : ℕ} → m ≤ n → Untouched R m (qualifiersOf p b) → Untouched R n (qualifiersOf p b)
 untouched-more more u = record { own = λ z from. u .own z (omega arith); unbound = λ z from. u .unbound z (omega arith) }
 
+-- E was imposed and then F: together G, which asks for both. Where F clashes G may ask for more.
+pub imposed-both : {R : List ℕ} {Q Q₁ Q₂ : Qualifiers} {E F G : (ℕ → ℕ) → Type 0} {B C D : ℕ → Type 0} {r : Bool} → Imposed R Q Q₁ E B true → Imposed R Q₁ Q₂ F C r
+    → ((v : ℕ → ℕ) → G v → E v × F v) → (r ≡ true → (v : ℕ → ℕ) → E v → F v → G v) → ((m : ℕ) → D m → B m × C m) → Imposed R Q Q₂ G D r
+imposed-both one two split join below =
+    record {
+      classes = two .classes;
+      into = λ done v linked g. let parts = split v g in two .into done v (one .into refl v linked (parts .0)) (parts .1);
+      outof = λ done v linked.
+          let last = two .outof done v linked in
+          let out = one .outof refl v (last .0) in
+          (out .0, join done v (out .1) (last .1));
+      bounds-into = λ done v linked bounded. two .bounds-into done v linked (one .bounds-into refl v (two .outof done v linked .0) bounded);
+      bounds-outof = λ done v linked bounded. one .bounds-outof refl v (two .outof done v linked .0) (two .bounds-outof done v linked bounded);
+      clash = λ apart v own linked g. let parts = split v g in two .clash apart v own (one .into refl v linked (parts .0)) (parts .1);
+      stays = λ m d untouched. let parts = below m d in two .stays m (parts .1) (one .stays m (parts .0) untouched);
+    }
+
 -- No pair, one pair more, and a pair that clashes.
 pub all-none : {R p b left right : List ℕ} → Classes R (qualifiersOf p b) → UnitedAll R (qualifiersOf p b) (qualifiersOf p b) (notesOf left right) 0 true
-all-none {left} {right} k =
-    record {
-      classes = k;
-      into = λ _ v linked _. linked;
-      outof = λ _ v linked. (linked, below-none (λ i. v (getD left i 0) ≡ v (getD right i 0)));
-      bounds-into = λ _ v linked bounded. bounded;
-      bounds-outof = λ _ v linked bounded. bounded;
-      clash = λ e. absurd (true≢false e);
-      stays = λ m _ u. u;
-    }
+all-none {left} {right} k = imposed-none k (λ v. below-none (λ i. v (getD left i 0) ≡ v (getD right i 0)))
 
 module _ {R p b p₁ b₁ p₂ b₂ left right : List ℕ} {i : ℕ} {r : Bool} (all : UnitedAll R (qualifiersOf p b) (qualifiersOf p₁ b₁) (notesOf left right) i true) (u : United R (qualifiersOf p₁ b₁) (qualifiersOf p₂ b₂) (getD left i 0) (getD right i 0) r) where
   -- The pairs before i lie below m, and so does pair i.
-  stays-on : {n : ℕ} → i < n → (m : ℕ) → PairsBelow m (notesOf left right) n → Untouched R m (qualifiersOf p b) → Untouched R m (qualifiersOf p₂ b₂)
-  stays-on less m below untouched =
-      let before : PairsBelow m (notesOf left right) i =
-      record { left-below = λ j h. below .left-below j (omega arith); right-below = λ j h. below .right-below j (omega arith) } in
-      u .stays m (below .left-below i less, below .right-below i less) (all .stays m before untouched)
+  below-on : {n : ℕ} → i < n → (m : ℕ) → PairsBelow m (notesOf left right) n → PairsBelow m (notesOf left right) i × ((getD left i 0 < m) × (getD right i 0 < m))
+  below-on less m below = (
+    record { left-below = λ j h. below .left-below j (omega arith); right-below = λ j h. below .right-below j (omega arith) },
+    (below .left-below i less, below .right-below i less),
+  )
 
   pub all-more : r ≡ true → UnitedAll R (qualifiersOf p b) (qualifiersOf p₂ b₂) (notesOf left right) (i + 1) true
   all-more done =
-      record {
-        classes = u .classes;
-        into = λ _ v linked alike. u .into done v (all .into refl v linked (λ j h. alike j (omega arith))) (alike i (omega arith));
-        outof = λ _ v linked.
-            let last = u .outof done v linked in
-            let out = all .outof refl v (last .0) in
-            (out .0, below-more (λ j. v (getD left j 0) ≡ v (getD right j 0)) i (out .1) (last .1));
-        bounds-into = λ _ v linked bounded. u .bounds-into done v linked (all .bounds-into refl v (u .outof done v linked .0) bounded);
-        bounds-outof = λ _ v linked bounded. all .bounds-outof refl v (u .outof done v linked .0) (u .bounds-outof done v linked bounded);
-        clash = λ e. absurd (true≢false e);
-        stays = stays-on (omega arith);
-      }
+      imposed-both all (rw done at u)
+      (λ v alike. ((λ j h. alike j (omega arith)), alike i (omega arith)))
+      (λ _ v. below-more (λ j. v (getD left j 0) ≡ v (getD right j 0)) i)
+      (below-on (omega arith))
 
   pub all-clash : {n : ℕ} → i < n → r ≡ false → UnitedAll R (qualifiersOf p b) (qualifiersOf p₂ b₂) (notesOf left right) n false
   all-clash less two =
-      record {
-        classes = u .classes;
-        into = λ e. absurd (false≢true e);
-        outof = λ e. absurd (false≢true e);
-        bounds-into = λ e. absurd (false≢true e);
-        bounds-outof = λ e. absurd (false≢true e);
-        clash = λ _ v own linked alike. u .clash two v own (all .into refl v linked (λ j h. alike j (omega arith))) (alike i less);
-        stays = stays-on less;
-      }
+      imposed-both all (rw two at u)
+      (λ v alike. ((λ j h. alike j (omega arith)), alike i less))
+      (λ e. absurd (false≢true e))
+      (below-on less)
