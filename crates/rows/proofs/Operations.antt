@@ -14,8 +14,10 @@ use Rattle.model.specs.Typing.{Ty, int}
 use Rattle.model.specs.declared.Term.the-variants.{Op}
 use Rattle.forest.specs.Forest.{up, here, Hung}
 use Rattle.forest.proofs.Links.{by-eq, up-other}
-use Rattle.graph.specs.Types.{TypeClasses, typesOf}
+use Rattle.graph.specs.Types.{TypeClasses, Equation, typesOf}
 use Rattle.graph.specs.Unused.{Unused}
+use Rattle.graph.specs.Steady.{Steady}
+use Rattle.graph.proofs.Steady.{steady-then, steady-kind}
 use Rattle.qualifiers.specs.Classes.{boundAt, Classes, United, Class, Restricted, Untouched, Within, qualifiersOf}
 use Rattle.qualifiers.proofs.Uniting.{no-class, class-node, new-alike, untouched-more}
 use Rattle.readings.specs.Nodes.{RowHolds, RowFits}
@@ -23,9 +25,12 @@ use Rattle.unification.specs.Merging.{Always, Reduced, MadeInt}
 use Rattle.unification.proofs.Merging.{intact-after}
 use Rattle.unification.proofs.Unused.{unused-kind, unused-more}
 use Rattle.unification.proofs.Fresh.{new-int}
-use Rattle.rows.specs.Steps.{Extended, Ready, Stepped}
+use Rattle.pending.specs.Pending.{pendingOf}
+use Rattle.rows.specs.Steps.{Extended, Ready, Stepped, leftOf, OwnPlain}
+use Rattle.rows.specs.declared.Verdict.{Verdict}
 use Rattle.rows.specs.declared.Verdict.the-variants.{Fine, Shapes, Apart, Broken}
 use Rattle.rows.proofs.Steps.{Taken, taken-beside, Equated, equated, equated-then, equated-as, extended, extended-below, parted}
+use Rattle.rows.proofs.Watching.{watched-same, carried-same}
 
 -- The result's node is the operands' or PLAIN's.
 pub result-one : (P : ℕ → Type 0) (o l : ℕ) {r : ℕ} → r ≡ resultOf o l → P l → P 0 → P r
@@ -67,13 +72,19 @@ module _ {i l r : ℕ} {R u k p b : List ℕ} (o : ℕ) (stands : (i < 256) × (
   abbrev Fits : (ℕ → ℕ) → Type 0
   Fits = RowFits R (Op o l r)
 
+  -- The row's step, whatever pairs are pending: it leaves all n of them.
+  abbrev Steps : (n : ℕ) (u′ k′ p′ b′ : List ℕ) → Verdict → Type 0
+  Steps n u′ k′ p′ b′ verdict =
+      (kids left right crowded : List ℕ) → Ready R i kids (typesOf u k) (qualifiersOf p b) (pendingOf left right crowded n) →
+      Stepped R i kids (typesOf u k) (qualifiersOf p b) (pendingOf left right crowded n) (leftOf u′ k′ p′ b′ left right crowded) Holds Fits (OwnPlain i (Op o l r)) verdict
+
   module _ {u₁ k₁ : List ℕ} {one : Bool} (first : MadeInt (typesOf u k) (typesOf u₁ k₁) (rowType l) one) where
     unused-first : {n : ℕ} (kids : List ℕ) → rowType i ≡ n → Unused n (typesOf u k) kids → Unused n (typesOf u₁ k₁) kids
     unused-first {n} kids e = first .stays n kids (omega arith) (omega arith)
 
     -- The left operand is an arrow.
-    pub left-clash : one ≡ false → (kids : List ℕ) → Ready R i kids (typesOf u k) (qualifiersOf p b) → Stepped R i kids (typesOf u k) (qualifiersOf p b) (typesOf u₁ k₁) (qualifiersOf p b) Holds Fits Shapes
-    left-clash clashed kids ready =
+    pub left-clash : {n : ℕ} → one ≡ false → Steps n u₁ k₁ p b Shapes
+    left-clash clashed kids left right crowded ready =
         let clash = first .clash clashed kids in
         (λ t v reads e. clash .0 t v reads (e .0), clash .1, unused-more (unused-first kids refl (ready .types)) (omega arith))
 
@@ -86,8 +97,8 @@ module _ {i l r : ℕ} {R u k p b : List ℕ} (o : ℕ) (stands : (i < 256) × (
         unused-second kids unused = second .stays (rowType i) kids (omega arith) (omega arith) (unused-first kids refl unused)
 
         -- The right operand is an arrow.
-        pub right-clash : two ≡ false → (kids : List ℕ) → Ready R i kids (typesOf u k) (qualifiersOf p b) → Stepped R i kids (typesOf u k) (qualifiersOf p b) (typesOf u₂ k₂) (qualifiersOf p b) Holds Fits Shapes
-        right-clash clashed kids ready =
+        pub right-clash : {n : ℕ} → two ≡ false → Steps n u₂ k₂ p b Shapes
+        right-clash clashed kids left right crowded ready =
             let before = first .made made kids in
             let clash = second .clash clashed kids in (
               λ t v reads e. clash .0 t v (before .into t v reads (e .0) .0) (e .1),
@@ -113,6 +124,11 @@ module _ {i l r : ℕ} {R u k p b : List ℕ} (o : ℕ) (stands : (i < 256) × (
           unused-after kids unused =
               unused-kind (unused-more (unused-second kids unused) (omega arith)) (rowType i) 1 (omega arith) (omega arith) (right-classes .size) (λ h. absurd (omega arith))
 
+          -- INT is no arrow.
+          all-steady : Steady (rowType i) (typesOf u k) (typesOf u₂ k₃) (λ r. ⊥)
+          all-steady =
+              steady-then (steady-then (first .steady (rowType i) (omega arith)) (second .steady (rowType i) (omega arith))) (steady-kind (rowType i) 1 (omega arith))
+
           -- The qualifiers that the row asks for.
           abbrev Alikes : (ℕ → ℕ) → Type 0
           Alikes v = (v (rowQualifier r) ≡ v (rowQualifier l)) × (v (rowQualifier i) ≡ v (resultOf o (rowQualifier l)))
@@ -125,8 +141,8 @@ module _ {i l r : ℕ} {R u k p b : List ℕ} (o : ℕ) (stands : (i < 256) × (
 
           module _ {p₁ b₁ : List ℕ} {class : ℕ} (answer : United R (qualifiersOf p b) (qualifiersOf p₁ b₁) (rowQualifier r) (rowQualifier l) (ltb class nodes) × Class b (qualifiersOf p₁ b₁) (rowQualifier l) class) where
             -- The operands have two constants.
-            pub operands-apart : class ≡ nodes → (kids : List ℕ) → Ready R i kids (typesOf u k) (qualifiersOf p b) → Stepped R i kids (typesOf u k) (qualifiersOf p b) (typesOf u₂ k₃) (qualifiersOf p₁ b₁) Holds Fits Apart
-            operands-apart none kids ready = (
+            pub operands-apart : {n : ℕ} → class ≡ nodes → Steps n u₂ k₃ p₁ b₁ Apart
+            operands-apart none kids left right crowded ready = (
               parted (taken kids (ready .types)) (refl, refl) (λ v constant linked q. answer .0 .clash (no-class none) v constant linked (q .0)),
               unused-after kids (ready .types),
             )
@@ -175,10 +191,10 @@ module _ {i l r : ℕ} {R u k p b : List ℕ} (o : ℕ) (stands : (i < 256) × (
                     (equated new-result))
 
                 module _ {most : ℕ} {b₂ : List ℕ} {fits : Bool} (limit : most ≡ highestAt R o) (restricted : Restricted R b₁ b₂ class most fits) where
-                  op-extended : (kids : List ℕ) → Ready R i kids (typesOf u k) (qualifiersOf p b) → Extended R kids (typesOf u k) (qualifiersOf p b) (typesOf u₂ k₃) (qualifiersOf p₂ b₂) Holds Fits
-                  op-extended kids ready =
-                      subst (λ (n : ℕ). Extended R kids (typesOf u k) (qualifiersOf p b) (typesOf u₂ k₃) (qualifiersOf p₂ b₂) Holds (λ v. under R (v (rowQualifier l)) n ≡ true)) limit
-                      (extended-below (extended (taken kids (ready .types)) equated-row) restricted
+                  op-extended : {G : Equation} (kids : List ℕ) → Unused (rowType i) (typesOf u k) kids → Extended R kids (typesOf u k) (qualifiersOf p b) (typesOf u₂ k₃) (qualifiersOf p₂ b₂) G Holds Fits
+                  op-extended {G} kids unused =
+                      subst (λ (n : ℕ). Extended R kids (typesOf u k) (qualifiersOf p b) (typesOf u₂ k₃) (qualifiersOf p₂ b₂) G Holds (λ v. under R (v (rowQualifier l)) n ≡ true)) limit
+                      (extended-below (extended (taken kids unused) equated-row) restricted
                       (rw placed (up-other (united .classes .forest) (rowQualifier i) result (omega arith) class (λ e. omega (arith, below)) ∙ answer .1 .root node))
                       (λ v linked. answer .1 .holds node v (new-result .outof refl v linked .0)))
 
@@ -189,16 +205,18 @@ module _ {i l r : ℕ} {R u k p b : List ℕ} (o : ℕ) (stands : (i < 256) × (
                       (λ e. subst (λ (x : ℕ). under R x (boundAt b₂ x) ≡ true) (sym e) (restricted .own fit (omega arith)))
                       (λ n. ap (under R c) (restricted .others c n ∙ answer .1 .others c n) ∙ within c code)
 
-                  pub op-fine : fits ≡ true → (kids : List ℕ) → Ready R i kids (typesOf u k) (qualifiersOf p b) → Stepped R i kids (typesOf u k) (qualifiersOf p b) (typesOf u₂ k₃) (qualifiersOf p₂ b₂) Holds Fits Fine
-                  op-fine fit kids ready = (
-                    op-extended kids ready,
+                  pub op-fine : {n : ℕ} → fits ≡ true → Steps n u₂ k₃ p₂ b₂ (Fine n)
+                  op-fine fit kids left right crowded ready = (
+                    op-extended kids (ready .types),
                     record {
                       types = unused-after kids (ready .types);
                       qualifiers = restricted .stays p₂ (rowQualifier (i + 1)) (omega (arith, below))
                           (new-result .stays (rowQualifier (i + 1)) (omega arith, omega (arith, result-below)) (untouched-more (omega arith) untouched-first));
                       within = within-after fit (ready .within);
+                      watched = watched-same (ready .watched) all-steady (λ v linked. equated-row .outof v linked .0);
                     },
+                    carried-same (λ t v. tt),
                   )
 
-                  pub op-broken : fits ≡ false → (kids : List ℕ) → Ready R i kids (typesOf u k) (qualifiersOf p b) → Stepped R i kids (typesOf u k) (qualifiersOf p b) (typesOf u₂ k₃) (qualifiersOf p₂ b₂) Holds Fits Broken
-                  op-broken over kids ready = (op-extended kids ready, unused-after kids (ready .types), restricted .broken over)
+                  pub op-broken : {n : ℕ} → fits ≡ false → Steps n u₂ k₃ p₂ b₂ Broken
+                  op-broken over kids left right crowded ready = (op-extended kids (ready .types), unused-after kids (ready .types), restricted .broken over)

@@ -28,9 +28,9 @@ cast-app-row-2 c = search needs
 
 app-row-requires : tie.Need-app-row-requires
 app-row-requires c κs =
-    let a = c .before .before .before .before .before .before .before .before .before in
+    let a = c .before .before .before .before .before .before .before .before .before .before .before .before in
     let row = a .pre .1 .1 .1 .0 in
-    let is = c .before .before .before .before .before .before .before .term .given .1 in
+    let is = c .before .before .before .before .before .before .before .before .before .before .term .given .1 in
     let stands = rw is at (row .0 .stands) in
     (a .pre .0, (a .pre .1 .0, (a .pre .1 .1 .0, ((row .0 .in-list, stands .0, stands .1, rw is at (row .1)), a .pre .1 .1 .1 .1))))
 
@@ -129,12 +129,12 @@ returns c =
     (row-arrow (row .0 .in-list) (a .pre .0) (a .pre .1 .1 .0) (a .pre .1 .1 .1 .1) known (rw is at (row .1)) (omega (arith, rw is at (row .0 .qualifier-node))) (omega (arith, rw is at (row .0 .type-node))) (omega (arith, stands .1)) (omega (arith, stands .1)))
 
 returns-2 : tie.Need-returns-2
-returns-2 c = rw (c .before .before .before .before .before .before .before .before .term .given .1) (c .app-row .ensures)
+returns-2 c = rw (c .before .before .before .before .before .before .before .before .before .before .before .term .given .1) (c .app-row .ensures)
 
 returns-3 : tie.Need-returns-3
 returns-3 c =
     let a = c .before .before .before .before .before .before .before .before in
-    rw (c .before .before .before .before .before .before .term2 .given .1) (c .op-row .ensures _ (a .pre .1 .1 .1 .1))
+    rw (c .before .before .before .before .before .before .term2 .given .1) (c .op-row .ensures _ _ _ _ (a .pre .1 .1 .1 .1))
 
 returns-4 : tie.Need-returns-4
 returns-4 c =
