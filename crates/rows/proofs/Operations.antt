@@ -25,7 +25,7 @@ use Rattle.unification.specs.Merging.{Always, Reduced, MadeInt}
 use Rattle.unification.proofs.Merging.{intact-after}
 use Rattle.unification.proofs.Unused.{unused-kind, unused-more}
 use Rattle.unification.proofs.Fresh.{new-int}
-use Rattle.pending.specs.Pending.{pendingOf}
+use Rattle.pending.specs.Pending.{pendingOf, Watched}
 use Rattle.rows.specs.Steps.{Extended, Ready, Stepped, leftOf, OwnPlain}
 use Rattle.rows.specs.declared.Verdict.{Verdict}
 use Rattle.rows.specs.declared.Verdict.the-variants.{Fine, Shapes, Apart, Broken}
@@ -205,6 +205,10 @@ module _ {i l r : ℕ} {R u k p b : List ℕ} (o : ℕ) (stands : (i < 256) × (
                       (λ e. subst (λ (x : ℕ). under R x (boundAt b₂ x) ≡ true) (sym e) (restricted .own fit (omega arith)))
                       (λ n. ap (under R c) (restricted .others c n ∙ answer .1 .others c n) ∙ within c code)
 
+                  watched-after : {n : ℕ} (kids left right crowded : List ℕ) → Ready R i kids (typesOf u k) (qualifiersOf p b) (pendingOf left right crowded n) →
+                      Watched (i + 1) (typesOf u₂ k₃) (qualifiersOf p₂ b₂) (pendingOf left right crowded n)
+                  watched-after kids left right crowded ready = watched-same (ready .watched) all-steady (λ v linked. equated-row .outof v linked .0)
+
                   pub op-fine : {n : ℕ} → fits ≡ true → Steps n u₂ k₃ p₂ b₂ (Fine n)
                   op-fine fit kids left right crowded ready = (
                     op-extended kids (ready .types),
@@ -213,10 +217,15 @@ module _ {i l r : ℕ} {R u k p b : List ℕ} (o : ℕ) (stands : (i < 256) × (
                       qualifiers = restricted .stays p₂ (rowQualifier (i + 1)) (omega (arith, below))
                           (new-result .stays (rowQualifier (i + 1)) (omega arith, omega (arith, result-below)) (untouched-more (omega arith) untouched-first));
                       within = within-after fit (ready .within);
-                      watched = watched-same (ready .watched) all-steady (λ v linked. equated-row .outof v linked .0);
+                      watched = watched-after kids left right crowded ready;
                     },
                     carried-same (λ t v. tt),
                   )
 
                   pub op-broken : {n : ℕ} → fits ≡ false → Steps n u₂ k₃ p₂ b₂ Broken
-                  op-broken over kids left right crowded ready = (op-extended kids (ready .types), unused-after kids (ready .types), restricted .broken over)
+                  op-broken {n} over kids left right crowded ready = (
+                    op-extended kids (ready .types),
+                    unused-after kids (ready .types),
+                    restricted .broken over,
+                    (n, watched-after kids left right crowded ready, carried-same (λ t v. tt)),
+                  )
