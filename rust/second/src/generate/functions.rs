@@ -2,8 +2,8 @@
 
 use super::goals::{any_scheme, any_word};
 use super::order;
+use super::program::Program;
 use super::random::Random;
-use super::text::text_of_lines;
 use crate::operation::Operation;
 use crate::qualifier::NAMED_VARIABLES;
 use crate::rows::{Parameter, QualifiedRow, Term, TypeRow};
@@ -21,17 +21,23 @@ pub fn functions(random: &mut Random) -> Vec<u8> {
     functions_under(random, SchemeTable::six())
 }
 
+/// The text of a program as [`function_program_under`] makes it.
+pub fn functions_under(random: &mut Random, schemes: &SchemeTable) -> Vec<u8> {
+    function_program_under(random, schemes).text()
+}
+
 /// A program that applies parameters to numbers, and what comes out too.
 ///
 /// Each value is the argument of a LAM around those before it, whose parameter may share its type row with others.
-pub fn functions_under(random: &mut Random, schemes: &SchemeTable) -> Vec<u8> {
+pub fn function_program_under(random: &mut Random, schemes: &SchemeTable) -> Program {
     let mut builder = Builder::random(random, schemes);
     builder.declare();
     builder.values();
     builder.unused_types();
     let Builder { random, mut table, .. } = builder;
     table.terms = order::numbered(random, &table.terms);
-    text_of_lines(&order::lines(random, &table).join(" "))
+    let lines = order::lines(random, &table);
+    Program { schemes: schemes.clone(), lines, redeclarations: vec![] }
 }
 
 /// The lists that grow while a program is built; every child stands below its parent.
