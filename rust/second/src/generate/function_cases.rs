@@ -103,8 +103,7 @@ fn has_unused_arrow(table: &Table) -> bool {
 
 /// Tells whether a row applies what an application of an unknown function gives.
 fn has_result_applied(table: &Table) -> bool {
-    let functions = table.terms.iter().filter_map(function_of);
-    functions.into_iter().any(|applied| {
+    table.terms.iter().filter_map(function_of).any(|applied| {
         let inner = table.terms.get(usize::from(applied)).and_then(function_of);
         inner.is_some_and(|function| is_unknown(table, function))
     })

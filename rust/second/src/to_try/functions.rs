@@ -1,6 +1,10 @@
 //! Programs about functions, which document 02, f), keeps PLAIN.
 
-use super::Try;
+use super::program::Try;
+
+/// The report of x, declared g0, applied to a number: x is a function, and nothing is asked of the number and the result.
+pub const APPLIED_REPORT: &str =
+    "OK,1,4 G,0,PLAIN P,0,PLAIN,ARROW E,0,PLAIN,ARROW E,1,RAND,INT E,2,RAND,ANY E,3,PLAIN,ARROW";
 
 /// All of them.
 pub fn all() -> Vec<Try> {
@@ -187,6 +191,6 @@ fn with_floors() -> Vec<Try> {
     };
     vec![
         Try::refused("x applied to NUM, floor FHE", &applied("FHE"), "NO,24,0", 24_000),
-        Try::accepted("x applied to NUM, floor PLAIN", &applied("PLAIN"), super::APPLIED_REPORT),
+        Try::accepted("x applied to NUM, floor PLAIN", &applied("PLAIN"), APPLIED_REPORT),
     ]
 }

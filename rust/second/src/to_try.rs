@@ -1,47 +1,14 @@
 //! The programs to try of document 01 under the rules of document 02 for NUM and for functions, and some about floors, literals, words in small letters and functions, each with its whole output worked out from the rules.
 
 mod functions;
+mod program;
 
-use crate::generate::text_of_lines;
-
-/// A program to try, with what the documents say of it.
-pub struct Try {
-    /// The program in words.
-    pub about: &'static str,
-    /// The program, its last line ended by a line feed.
-    pub text: Vec<u8>,
-    /// What `place` prints.
-    pub prints: Vec<u8>,
-    /// What the C entry returns for a buffer that is long enough.
-    pub returns: u32,
-}
-
-impl Try {
-    /// A program that has this report; lines are separated by white space in both.
-    fn accepted(about: &'static str, lines: &str, report: &str) -> Try {
-        let prints = text_of_lines(report);
-        let returns = 100_000 + prints.len() as u32;
-        Try { about, text: text_of_lines(lines), prints, returns }
-    }
-
-    /// A program that is refused: `place` prints this line, and the C entry returns this number.
-    fn refused(about: &'static str, lines: &str, prints: &str, returns: u32) -> Try {
-        Try { about, text: text_of_lines(lines), prints: text_of_lines(prints), returns }
-    }
-
-    /// The report that the C entry writes, if the program is accepted.
-    pub fn report(&self) -> Option<&[u8]> {
-        (self.returns > 100_000).then_some(&self.prints)
-    }
-}
+use functions::APPLIED_REPORT;
+pub use program::Try;
 
 /// The report of a sum of x, declared g0, and x or a number.
 const SUM_REPORT: &str =
     "OK,1,4 G,0,AH P,0,AH,INT E,0,AH,INT E,1,AH,INT E,2,AH,INT E,3,PLAIN,ARROW";
-
-/// The report of x, declared g0, applied to a number: x is a function, and nothing is asked of the number and the result.
-const APPLIED_REPORT: &str =
-    "OK,1,4 G,0,PLAIN P,0,PLAIN,ARROW E,0,PLAIN,ARROW E,1,RAND,INT E,2,RAND,ANY E,3,PLAIN,ARROW";
 
 /// All programs to try.
 pub fn all() -> Vec<Try> {
