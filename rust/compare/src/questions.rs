@@ -7,7 +7,7 @@ use second::counts::Counts;
 use second::generate::Random;
 use second::place::number_of;
 use second::report::LONGEST_REPORT;
-use second::schemes::{Code, SIX_FILE};
+use second::schemes::{Code, PLAIN, SIX_FILE};
 use second::{entry, entry_under, SchemeTable};
 use std::fmt::{Display, Formatter, Result};
 use std::time::Instant;
@@ -175,14 +175,23 @@ impl Tally {
         }
     }
 
-    /// Asserts that each of these words and each shape was reported so often.
+    /// Asserts that each of these words was reported so often, with INT too, and that a function was.
     pub fn assert_each_word(&self, codes: impl Iterator<Item = Code>, fewest: usize) {
         for code in codes {
             self.slots.assert_each([slot("G", code, &[])], fewest);
-            for shape in ["INT", "ANY", "ARROW"] {
-                self.slots.assert_each(["P", "E"].map(|list| slot(list, code, &[shape])), fewest);
-            }
+            self.assert_each_slot(code, "INT", fewest);
         }
+        self.assert_each_slot(PLAIN, "ARROW", fewest);
+    }
+
+    /// Asserts that each of these words was reported with ANY so often.
+    pub fn assert_each_free_word(&self, codes: impl IntoIterator<Item = Code>, fewest: usize) {
+        codes.into_iter().for_each(|code| self.assert_each_slot(code, "ANY", fewest));
+    }
+
+    /// Asserts that a word was reported with a shape for so many parameters and rows.
+    fn assert_each_slot(&self, code: Code, shape: &str, fewest: usize) {
+        self.slots.assert_each(["P", "E"].map(|list| slot(list, code, &[shape])), fewest);
     }
 
     /// Prints the counts for those who want to see them, and the slowest call for all.

@@ -57,6 +57,10 @@ fn worked_out_jobs_are_run() {
     assert_run("T,0,INT P,0,AH,0,RAND E,0,VAR,0 E,1,LAM,0,0", &[3], 9, 28_000, [0; 4]);
     let applied = "T,0,ANY P,0,g0,0 E,0,VAR,0 E,1,NUM,1 E,2,APP,0,1 E,3,LAM,0,2";
     assert_run(applied, &[1], 9, 28_000, [0; 4]);
+    // x is no function where it is declared RAND, so that applying it refuses the job.
+    assert_run(&applied.replace("g0", "RAND"), &[1], 9, 28_000, [0; 4]);
+    let given = "T,0,ANY P,0,RAND,0 E,0,VAR,0 E,1,LAM,0,0";
+    assert_run(given, &[3], 9, NUMBER, [3, 6, 1, 0]);
     let less = "T,0,INT P,0,g0,0 E,0,VAR,0 E,1,NUM,9 E,2,OP,LT,0,1 E,3,LAM,0,2";
     assert_run(less, &[8], 9, NUMBER, [1, 0, 1, 1]);
     assert_run(less, &[9], 9, NUMBER, [0, 0, 1, 1]);

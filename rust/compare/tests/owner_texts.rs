@@ -10,9 +10,9 @@ use compare::{placement_report, placement_report_under};
 use second::counts::Counts;
 use second::examples::{bytes, files, scheme_files, tables_of};
 use second::generate::{
-    accepted_file, accepted_file_of, chain_under, deep, doubling_under, text_of_lines,
-    text_with_floors_under, Floors, LineFault, NumberCounts, OrderFaults, Place, PlainByBounds,
-    Random, SchemeFile, SchemeProperty,
+    accepted_file, accepted_file_of, chain_under, deep, doubling_under, functions_under,
+    text_of_lines, text_with_floors_under, Floors, LineFault, NumberCounts, OrderFaults, Place,
+    PlainByBounds, Random, SchemeFile, SchemeProperty,
 };
 use second::operation::Operation;
 use second::place::{number_of, returned_for};
@@ -285,18 +285,21 @@ fn tables_of_each_size_are_answered_alike() {
     seen.assert_each(TABLES / 800);
     seen.assert_each_named(TABLES / 320);
     seen.tally.assert_each_word(0..=5, TABLES / 800);
+    seen.tally.assert_each_free_word(0..=4, TABLES / 800);
     // Few files have so many schemes.
     seen.tally.assert_each_word(6..=8, TABLES / 4_000);
+    seen.tally.assert_each_free_word(5..=8, TABLES / 4_000);
     seen.floors.assert_each(Floors::ALL, TABLES / 50);
     seen.numbers.places.assert_each(Place::all(), TABLES / 60);
     seen.numbers.different_words.assert_each(2..=4, TABLES / 100);
 }
 
 #[test]
-fn tables_with_deep_sharing_and_long_chains_are_answered_alike() {
+fn tables_with_deep_sharing_and_long_chains_and_about_functions_are_answered_alike() {
     for (about, generate) in [
         ("deep sharing", doubling_under as fn(&mut Random, &SchemeTable) -> Vec<u8>),
         ("a chain of 256 rows", chain_under),
+        ("functions", functions_under),
     ] {
         let (mut random, mut seen) = (Random::seeded(4), Seen::default());
         for size in (1..=SchemeTable::MOST_SCHEMES).cycle().take(SPECIAL_TABLES) {
@@ -363,18 +366,17 @@ fn deep_programs_are_answered_in_the_names_of_the_file() {
 }
 
 #[test]
-fn the_greatest_report_has_the_names_of_the_file() {
+fn the_greatest_report_has_no_name_of_the_file() {
     let file = "S,UPPER,00000 S,LOWER,11111";
+    // All slots are functions, which are PLAIN: a name is not longer, and refuses the lines.
+    let mut report = String::from("OK,63,256");
+    report.extend((0..64).map(|variable| format!(" G,{variable},PLAIN")));
+    report.extend((0..63).map(|parameter| format!(" P,{parameter},PLAIN,ARROW")));
+    report.extend((0..256).map(|row| format!(" E,{row},PLAIN,ARROW")));
+    assert_eq!(text_of_lines(&report).len(), 6_263);
+    assert_report(file, &deep::greatest_report(), &report);
     for name in ["UPPER", "LOWER"] {
-        // The 63 LAMs are PLAIN; the variables, the parameters and all other rows are of this scheme.
-        let program = deep::greatest_report().replace("PLAIN", name);
-        let word = |row: usize| if row < 193 { name } else { "PLAIN" };
-        let mut report = String::from("OK,63,256");
-        report.extend((0..64).map(|variable| format!(" G,{variable},{name}")));
-        report.extend((0..63).map(|parameter| format!(" P,{parameter},{name},ARROW")));
-        report.extend((0..256).map(|row| format!(" E,{row},{},ARROW", word(row))));
-        assert_eq!(text_of_lines(&report).len(), 6_263);
-        assert_report(file, &program, &report);
+        assert_refused(file, &deep::greatest_report().replace("PLAIN", name), 22_000);
     }
 }
 

@@ -8,13 +8,14 @@ use compare::texts::{closed_text, filled_table, large_texts, random_text, Kind};
 use compare::words::WordCounts;
 use second::counts::Counts;
 use second::generate::{
-    chain, deep, doubling, possible_words, text_of_lines, text_with_floors, Damage, Floors,
-    LetterCase, NumberCounts, Partner, Place, Random,
+    chain, deep, doubling, functions, possible_words, text_of_lines, text_with_floors, Damage,
+    Floors, FunctionCounts, LetterCase, NumberCounts, Partner, Place, Random,
 };
 use second::operation::Operation;
 use second::place::number_of;
 use second::report::LONGEST_REPORT;
 use second::rows::TypeRow;
+use second::schemes::PLAIN;
 use second::text::lines;
 use second::to_try;
 use second::{SchemeTable, Table};
@@ -157,6 +158,7 @@ fn texts_of_each_kind_are_answered_alike() {
     let parameters = tally.parameters.0.len();
     assert!(parameters > 40, "{parameters} parameters were named only");
     tally.assert_each_word(SchemeTable::six().qualifiers(), TEXTS / 7_000);
+    tally.assert_each_free_word([PLAIN, SchemeTable::six().greatest()], TEXTS / 7_000);
     tally.finish(&format!("{TEXTS} texts"));
 }
 
@@ -236,6 +238,7 @@ fn tables_of_each_size_are_answered_alike() {
     tally.answers.assert_each(VERDICTS, TABLES / 20);
     let six = SchemeTable::six();
     tally.assert_each_word(six.qualifiers(), TABLES / 3_000);
+    tally.assert_each_free_word([PLAIN, six.greatest()], TABLES / 3_000);
     numbers.places.assert_each(Place::all(), TABLES / 60);
     numbers.partners.assert_each(Partner::all(six), TABLES / 200);
     numbers.words.assert_each(six.words(), TABLES / 20);
@@ -287,6 +290,24 @@ fn chains_of_256_rows_are_answered_alike() {
     numbers.places.assert_each(operands.chain([Place::Argument]), SPECIAL_TABLES);
     tally.answers.assert_each(VERDICTS, SPECIAL_TABLES / 50);
     tally.finish(&format!("{SPECIAL_TABLES} chains of 256 rows"));
+}
+
+#[test]
+fn tables_about_functions_are_answered_alike() {
+    let mut random = Random::seeded(7);
+    let (mut tally, mut seen) = (Tally::default(), FunctionCounts::default());
+    for _ in 0..SPECIAL_TABLES {
+        let text = functions(&mut random);
+        let text = text_with_floors(&mut random, &text);
+        seen.take(&filled_table(Table::fresh(), &text));
+        tally.compare(&mut random, "functions", Question::of_six(&text), Room::Exact);
+    }
+    println!("{seen:?}");
+    seen.assert_each(SPECIAL_TABLES / 50);
+    tally.answers.assert_each(VERDICTS, SPECIAL_TABLES / 50);
+    // The lines alone are refused at row 0, and other rows too.
+    assert!(tally.rows.0.len() > 50, "{} rows were named only", tally.rows.0.len());
+    tally.finish(&format!("{SPECIAL_TABLES} tables about functions"));
 }
 
 #[test]

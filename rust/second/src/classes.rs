@@ -1,6 +1,6 @@
 //! Classes of qualifiers that must be equal, with the constant and the bounds of each class.
 
-use crate::schemes::{Code, SchemeTable};
+use crate::schemes::{Code, SchemeTable, PLAIN};
 
 /// A qualifier that takes part in equations. The codes of a scheme table stand for its qualifiers
 /// and the named variables; greater numbers are unknown qualifiers of rows.
@@ -68,6 +68,11 @@ impl<'a> Classes<'a> {
             // PLAIN is at or below every bound.
             None => true,
         }
+    }
+
+    /// Tells whether every solution gives one and the same scheme to an element.
+    pub fn has_scheme(&self, element: Element) -> bool {
+        self.constant[self.class_of[element]].is_some_and(|constant| constant != PLAIN)
     }
 
     /// The greatest qualifier that a solution gives to an element.

@@ -3,7 +3,7 @@
 //! Types are numbered nodes, so a type that is used many times is stored and compared once.
 
 use crate::classes::{Classes, Element};
-use crate::schemes::{Code, SchemeTable};
+use crate::schemes::{Code, SchemeTable, PLAIN};
 
 /// The number of a type node.
 pub type TypeId = usize;
@@ -26,6 +26,20 @@ pub enum Strength {
     Equalities,
     /// The rules as they are.
     Full,
+    /// The rules but for document 02, f): a function may stand under a scheme.
+    EncryptedFunctions,
+}
+
+impl Strength {
+    /// Tells whether a qualifier has to be at or below the highest scheme of an operation.
+    fn has_bounds(self) -> bool {
+        matches!(self, Strength::Full | Strength::EncryptedFunctions)
+    }
+
+    /// Tells whether a qualifier that stands with an arrow has to be PLAIN.
+    fn has_plain_functions(self) -> bool {
+        matches!(self, Strength::Full | Strength::Equalities)
+    }
 }
 
 /// What every typing has at a place: INT, an arrow, or either.
@@ -98,7 +112,25 @@ impl<'a> Solution<'a> {
 
     /// Keeps a qualifier at or below a scheme; false if that leaves no solution.
     pub fn limit(&mut self, qualifier: Element, scheme: Code) -> bool {
-        self.strength != Strength::Full || self.classes.limit(qualifier, scheme)
+        !self.strength.has_bounds() || self.classes.limit(qualifier, scheme)
+    }
+
+    /// Makes the qualifier of an arrow PLAIN; false if that leaves no solution.
+    pub fn make_function_plain(&mut self, qualified: Qualified) -> bool {
+        !self.strength.has_plain_functions()
+            || self.shape(qualified.type_id) != Shape::Arrow
+            || self.classes.equate(qualified.qualifier, PLAIN.into())
+    }
+
+    /// Makes an unknown type under a scheme INT, as it is no arrow; only once all equations are taken.
+    pub fn make_encrypted_integer(&mut self, qualified: Qualified) {
+        let node = self.resolve(qualified.type_id);
+        if self.strength.has_plain_functions()
+            && self.shape(node) == Shape::Any
+            && self.classes.has_scheme(qualified.qualifier)
+        {
+            self.types[node] = TypeNode::Int;
+        }
     }
 
     /// Makes two types equal; false if that leaves no solution.

@@ -1,37 +1,10 @@
-//! The programs to try of document 01 under the rule for NUM of document 02, and some about floors, literals and words in small letters, each with its whole output worked out from the rules.
+//! The programs to try of document 01 under the rules of document 02 for NUM and for functions, and some about floors, literals, words in small letters and functions, each with its whole output worked out from the rules.
 
-use crate::generate::text_of_lines;
+mod functions;
+mod program;
 
-/// A program to try, with what the documents say of it.
-pub struct Try {
-    /// The program in words.
-    pub about: &'static str,
-    /// The program, its last line ended by a line feed.
-    pub text: Vec<u8>,
-    /// What `place` prints.
-    pub prints: Vec<u8>,
-    /// What the C entry returns for a buffer that is long enough.
-    pub returns: u32,
-}
-
-impl Try {
-    /// A program that has this report; lines are separated by white space in both.
-    fn accepted(about: &'static str, lines: &str, report: &str) -> Try {
-        let prints = text_of_lines(report);
-        let returns = 100_000 + prints.len() as u32;
-        Try { about, text: text_of_lines(lines), prints, returns }
-    }
-
-    /// A program that is refused: `place` prints this line, and the C entry returns this number.
-    fn refused(about: &'static str, lines: &str, prints: &str, returns: u32) -> Try {
-        Try { about, text: text_of_lines(lines), prints: text_of_lines(prints), returns }
-    }
-
-    /// The report that the C entry writes, if the program is accepted.
-    pub fn report(&self) -> Option<&[u8]> {
-        (self.returns > 100_000).then_some(&self.prints)
-    }
-}
+use functions::APPLIED_REPORT;
+pub use program::Try;
 
 /// The report of a sum of x, declared g0, and x or a number.
 const SUM_REPORT: &str =
@@ -49,6 +22,7 @@ pub fn all() -> Vec<Try> {
     all.extend(with_literals_for_functions());
     all.extend(with_small_letters());
     all.extend(with_letters_in_the_wrong_case());
+    all.extend(functions::all());
     all
 }
 
@@ -126,8 +100,7 @@ fn starred() -> Vec<Try> {
         Try::accepted(
             "x applied to NUM",
             "T,0,ANY P,0,g0,0 E,0,VAR,0 E,1,NUM,3 E,2,APP,0,1 E,3,LAM,0,2",
-            "OK,1,4 G,0,RAND P,0,RAND,ARROW E,0,RAND,ARROW E,1,RAND,INT E,2,RAND,ANY
-             E,3,PLAIN,ARROW",
+            APPLIED_REPORT,
         ),
     ]
 }
@@ -297,8 +270,8 @@ fn with_applied_literals() -> Vec<Try> {
             "T,0,ANY P,0,g0,0
              E,0,VAR,0 E,1,NUM,1 E,2,APP,0,1 E,3,VAR,0 E,4,ENC,MH,1 E,5,APP,3,4 E,6,OP,EQ,2,5
              E,7,LAM,0,6",
-            "OK,1,8 G,0,RAND P,0,RAND,ARROW
-             E,0,RAND,ARROW E,1,MH,INT E,2,DET,INT E,3,RAND,ARROW E,4,MH,INT E,5,DET,INT
+            "OK,1,8 G,0,PLAIN P,0,PLAIN,ARROW
+             E,0,PLAIN,ARROW E,1,MH,INT E,2,DET,INT E,3,PLAIN,ARROW E,4,MH,INT E,5,DET,INT
              E,6,PLAIN,INT E,7,PLAIN,ARROW",
         ),
     ]
@@ -342,10 +315,10 @@ fn with_small_letters() -> Vec<Try> {
         ),
         Try::accepted(
             "an arrow, applied to an encrypted number, in small letters",
-            "T,0,int T,1,arrow,ah,0,plain,0 P,0,g0,1,det
+            "T,0,int T,1,arrow,ah,0,plain,0 P,0,g0,1,plain
              E,0,var,0 E,1,enc,ah,5 E,2,app,0,1 E,3,lam,0,2",
-            "OK,1,4 G,0,RAND P,0,RAND,ARROW
-             E,0,RAND,ARROW E,1,AH,INT E,2,PLAIN,INT E,3,PLAIN,ARROW",
+            "OK,1,4 G,0,PLAIN P,0,PLAIN,ARROW
+             E,0,PLAIN,ARROW E,1,AH,INT E,2,PLAIN,INT E,3,PLAIN,ARROW",
         ),
         Try::refused(
             "x declared op with the floor det in small letters",

@@ -34,7 +34,7 @@ pub struct Judgement {
 pub struct NoTyping {
     /// 21, 22 or 23.
     pub number: u32,
-    /// The least row up to which the rows have no typing.
+    /// The least row up to which the rows have no typing; 0 where the T and P lines alone have none.
     pub row: u32,
 }
 
@@ -52,6 +52,19 @@ pub fn judge_without_bounds(table: &Table) -> Option<Judgement> {
     inference.ok().map(|inference| inference.judgement())
 }
 
+/// The same where a function may stand under a scheme, as before document 02, f); or the least row without a typing.
+pub fn judge_with_encrypted_functions(table: &Table) -> Result<Judgement, u32> {
+    match solve(table, table.terms.len(), Strength::EncryptedFunctions) {
+        Ok(inference) => Ok(inference.judgement()),
+        Err(row) => Err(row as u32),
+    }
+}
+
+/// Tells whether the T and P lines alone have a typing.
+pub fn lines_have_typing(table: &Table) -> bool {
+    solve(table, 0, Strength::Full).is_ok()
+}
+
 /// The refusal's number for the least row up to which the rows have no typing.
 fn refusal_number(table: &Table, row: usize) -> u32 {
     let has_typing = |strength| solve(table, row + 1, strength).is_ok();
@@ -64,13 +77,19 @@ fn refusal_number(table: &Table, row: usize) -> u32 {
     }
 }
 
-/// Solves the T and P lines with the first rows, or names the least row without a typing.
+/// Solves the T and P lines with the first rows, or names the least row without a typing, 0 for the lines alone.
 fn solve(table: &Table, rows: usize, strength: Strength) -> Result<Inference<'_>, usize> {
     let mut inference = Inference::of_declarations(table, strength);
-    for (row, &term) in table.terms[..rows].iter().enumerate() {
+    inference.make_functions_plain().ok_or(0usize)?;
+    for (row, &term) in table.terms.iter().take(rows).enumerate() {
         let qualified = inference.apply_rule(term).ok_or(row)?;
         inference.terms.push(qualified);
+        // No other row makes a type an arrow that was none.
+        if let Term::Apply { .. } = term {
+            inference.make_functions_plain().ok_or(row)?;
+        }
     }
+    inference.make_encrypted_integers();
     Ok(inference)
 }
 
@@ -83,7 +102,7 @@ struct Inference<'a> {
 }
 
 impl<'a> Inference<'a> {
-    /// Takes all T and P lines; they always have a typing, as type rows refer below.
+    /// Takes all T and P lines; without the rule for functions they have a typing, as type rows refer below.
     fn of_declarations(table: &'a Table, strength: Strength) -> Inference<'a> {
         let mut inference = Inference {
             table,
@@ -122,6 +141,29 @@ impl<'a> Inference<'a> {
     /// The qualified type of a term row.
     fn term(&self, row: u16) -> Qualified {
         self.terms[usize::from(row)]
+    }
+
+    /// Each qualifier with the type that it stands with: in type rows, used or not, in parameters and in the term rows taken.
+    ///
+    /// Those inside the types of other rows are equal to some of these.
+    fn standing(&self) -> Vec<Qualified> {
+        let declared = declared_rows(self.table).map(|row| self.declared(row));
+        declared.chain(self.terms.iter().copied()).collect()
+    }
+
+    /// Document 02, f): "Wherever a qualifier stands with an arrow [..] it is PLAIN"; `None` without a typing.
+    ///
+    /// Equal qualifiers make no new arrow, so that one look at each is enough.
+    fn make_functions_plain(&mut self) -> Option<()> {
+        let mut standing = self.standing().into_iter();
+        standing.all(|it| self.solution.make_function_plain(it)).then_some(())
+    }
+
+    /// The other side of that rule: a type under a scheme is no arrow.
+    fn make_encrypted_integers(&mut self) {
+        for qualified in self.standing() {
+            self.solution.make_encrypted_integer(qualified);
+        }
     }
 
     /// Takes the equations of a term's rule; gives its qualified type, or `None` without a typing.
@@ -189,11 +231,15 @@ fn constant(qualifier: Code, type_id: TypeId) -> Qualified {
     Qualified { qualifier: usize::from(qualifier), type_id }
 }
 
+/// The qualifiers with their type rows in the T lines and in the parameters as they are declared at present.
+fn declared_rows(table: &Table) -> impl Iterator<Item = QualifiedRow> + '_ {
+    let in_types = table.types.iter().flat_map(TypeRow::parts);
+    in_types.chain(table.params.iter().map(Parameter::declared))
+}
+
 /// The named variables in any T line or in a parameter's present qualifier, rising.
 fn standing_variables(table: &Table) -> Vec<u8> {
-    let in_types = table.types.iter().flat_map(TypeRow::parts);
-    let declared = in_types.chain(table.params.iter().map(Parameter::declared));
-    let codes: Vec<Code> = declared.map(|row| row.qualifier).collect();
+    let codes: Vec<Code> = declared_rows(table).map(|row| row.qualifier).collect();
     let first = table.schemes().first_variable();
     (0..NAMED_VARIABLES).filter(|variable| codes.contains(&(first + variable))).collect()
 }

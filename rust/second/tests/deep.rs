@@ -22,7 +22,7 @@ fn assert_starts_quickly(program: &str, start: &str) {
 fn an_unknown_takes_a_type_with_many_paths() {
     assert_starts_quickly(
         &deep::unknown_takes_shared_type(),
-        "OK,2,5\nG,0,RAND\nG,1,RAND\nG,2,RAND\nP,0,RAND,ARROW\nP,1,RAND,ARROW\n",
+        "OK,2,5\nG,0,PLAIN\nG,1,PLAIN\nG,2,PLAIN\nP,0,PLAIN,ARROW\nP,1,PLAIN,ARROW\n",
     );
 }
 
@@ -34,7 +34,7 @@ fn a_type_with_many_paths_does_not_contain_itself() {
 #[test]
 fn two_types_with_many_paths_are_compared_once() {
     let chains = deep::two_doubling_chains;
-    let accepted = "OK,2,5\nG,0,RAND\nG,1,RAND\nP,0,PLAIN,ARROW\nP,1,PLAIN,ARROW\n";
+    let accepted = "OK,2,5\nG,0,PLAIN\nG,1,PLAIN\nP,0,PLAIN,ARROW\nP,1,PLAIN,ARROW\n";
     assert_starts_quickly(&chains("ANY", "ANY"), accepted);
     assert_starts_quickly(&chains("INT", "ANY"), accepted);
     assert_starts_quickly(&chains("INT", "INT"), accepted);
@@ -47,6 +47,30 @@ fn chains_of_different_lengths_clash() {
     for lowest in ["INT", "ANY"] {
         assert_starts_quickly(&deep::chains_of_different_lengths(lowest), "NO,21,3\n");
     }
+}
+
+#[test]
+fn a_type_with_many_paths_has_no_function_under_a_scheme() {
+    let plain = "OK,1,2\nP,0,PLAIN,ARROW\nE,0,PLAIN,ARROW\nE,1,PLAIN,ARROW\n";
+    assert_starts_quickly(&deep::shared_type_under("PLAIN"), plain);
+    assert_starts_quickly(&deep::shared_type_under("g7"), "OK,1,2\nG,7,PLAIN\n");
+    assert_starts_quickly(&deep::shared_type_under("AH"), "NO,22,0\n");
+}
+
+#[test]
+fn joined_functions_are_plain() {
+    let mut expected = String::from("OK,60,121");
+    expected += &(0..60).map(|variable| format!(" G,{variable},PLAIN")).collect::<String>();
+    expected += &(0..60).map(|own| format!(" P,{own},PLAIN,ARROW")).collect::<String>();
+    // All rows are functions but the number and what it is applied for.
+    let word = |row| match row {
+        88 => "RAND,INT",
+        89 => "RAND,ANY",
+        _ => "PLAIN,ARROW",
+    };
+    expected += &(0..121).map(|row| format!(" E,{row},{}", word(row))).collect::<String>();
+    assert_prints(&deep::joined_functions("g59"), &expected);
+    assert_prints(&deep::joined_functions("AH"), "NO,22,89");
 }
 
 #[test]
@@ -76,11 +100,12 @@ fn a_long_sum_is_judged() {
 
 #[test]
 fn a_long_application_is_judged() {
-    let mut expected = String::from("OK,1,256 G,0,RAND P,0,RAND,ARROW E,0,RAND,ARROW");
+    let mut expected = String::from("OK,1,256 G,0,PLAIN P,0,PLAIN,ARROW E,0,PLAIN,ARROW");
     for application in 0..127 {
         let row = 2 * application + 1;
-        let shape = if application == 126 { "ANY" } else { "ARROW" };
-        expected += &format!(" E,{row},RAND,INT E,{},RAND,{shape}", row + 1);
+        // Every result but the last is applied.
+        let result = if application == 126 { "RAND,ANY" } else { "PLAIN,ARROW" };
+        expected += &format!(" E,{row},RAND,INT E,{},{result}", row + 1);
     }
     expected += " E,255,PLAIN,ARROW";
     assert_prints(&deep::long_application(), &expected);
@@ -88,11 +113,11 @@ fn a_long_application_is_judged() {
 
 #[test]
 fn nested_applications_are_judged() {
-    let mut expected = String::from("OK,2,255 G,0,RAND G,1,RAND P,0,RAND,ARROW P,1,RAND,ANY");
+    let mut expected = String::from("OK,2,255 G,0,PLAIN G,1,RAND P,0,PLAIN,ARROW P,1,RAND,ANY");
     expected += " E,0,RAND,ANY";
     for application in 0..126 {
         let row = 2 * application + 1;
-        expected += &format!(" E,{row},RAND,ARROW E,{},RAND,ANY", row + 1);
+        expected += &format!(" E,{row},PLAIN,ARROW E,{},RAND,ANY", row + 1);
     }
     expected += " E,253,PLAIN,ARROW E,254,PLAIN,ARROW";
     assert_prints(&deep::nested_applications(), &expected);
@@ -101,7 +126,7 @@ fn nested_applications_are_judged() {
 #[test]
 fn long_types_are_compared() {
     let program = deep::long_types;
-    let accepted = "OK,2,253\nG,0,RAND\nG,1,RAND\n";
+    let accepted = "OK,2,253\nG,0,PLAIN\nG,1,PLAIN\n";
     assert_starts_quickly(&program(["NUM,1", "NUM,1"], "OP,ADD"), accepted);
     assert_starts_quickly(&program(["NUM,1", "ENC,AH,1"], "OP,ADD"), accepted);
     assert_starts_quickly(&program(["ENC,MH,1", "NUM,1"], "OP,ADD"), accepted);
@@ -144,7 +169,7 @@ fn numbers_in_sums_follow_the_sums() {
 
 #[test]
 fn towers_of_arrows_are_compared() {
-    let accepted = "OK,4,255\nG,0,RAND\nG,1,RAND\nG,2,RAND\nG,3,RAND\nP,0,RAND,ARROW\n";
+    let accepted = "OK,4,255\nG,0,PLAIN\nG,1,PLAIN\nG,2,PLAIN\nG,3,PLAIN\nP,0,PLAIN,ARROW\n";
     assert_starts_quickly(&deep::towers_of_arrows(61, 61), accepted);
     // The result of the lower tower is an arrow and is compared by EQ.
     assert_starts_quickly(&deep::towers_of_arrows(60, 62), "NO,21,250\n");

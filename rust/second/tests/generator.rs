@@ -6,9 +6,10 @@ use common::{make, Infers};
 use second::counts::Counts;
 use second::generate::{
     any_bytes, call_list, chain, changed_line, closed_program, damaged_line, damaged_text,
-    doubling, opened, possible_words, program_with_floors, spellings, text_in_any_case,
-    text_of_table, text_with_floors, what_if_list, Call, Damage, Floors, LetterCase, LetterDamage,
-    NumberCounts, Opening, Partner, Place, Program, Random, WRONG_FLOORS,
+    doubling, functions, opened, possible_words, program_with_floors, spellings, text_in_any_case,
+    text_of_table, text_with_floors, what_if_list, Call, Damage, Floors, FunctionCase,
+    FunctionCounts, LetterCase, LetterDamage, NumberCounts, Opening, Partner, Place, Program,
+    Random, WRONG_FLOORS,
 };
 use second::line::read;
 use second::operation::Operation;
@@ -236,7 +237,7 @@ fn the_features_occur() {
 #[test]
 fn numbers_stand_everywhere() {
     let mut numbers = NumberCounts::default();
-    for program in programs(47, 4000) {
+    for program in programs(65, 5000) {
         numbers.take(&program.table());
         // Here other qualifiers stand in the lines than after the redeclarations.
         if !program.redeclarations.is_empty() {
@@ -295,7 +296,11 @@ fn words_are_in_each_case() {
     assert_each_case("a program", 49, |random| owned(program_with_floors(random, 40).text()));
     assert_each_case("a list of calls", 50, |random| added(call_list(random, 40)).collect());
     assert_each_case("a what-if list", 51, |random| added(what_if_list(random, 40, 5)).collect());
-    for (about, generate) in [("deep sharing", doubling as fn(&mut _) -> _), ("a chain", chain)] {
+    for (about, generate) in [
+        ("deep sharing", doubling as fn(&mut _) -> _),
+        ("a chain", chain),
+        ("functions", functions),
+    ] {
         assert_each_case(about, 52, |random| {
             let text = generate(random);
             owned(text_with_floors(random, &text))
@@ -510,8 +515,32 @@ fn the_text_of_a_table_fills_it_again() {
 }
 
 #[test]
+fn functions_under_schemes_are_refused_in_each_way() {
+    let mut random = Random::seeded(61);
+    let (mut about_functions, mut others) = (FunctionCounts::default(), FunctionCounts::default());
+    for _ in 0..2_000 {
+        about_functions.take(&table(&functions(&mut random)));
+    }
+    about_functions.assert_each(40);
+    // Most of these have no function of an unknown type whose result is one too.
+    programs(62, 2_000).iter().for_each(|program| others.take(&table(&program.text())));
+    others.0.assert_each([(FunctionCase::LinesRefused, false)], 100);
+    let changes = [FunctionCase::PlainByFunction, FunctionCase::IntegerByScheme];
+    let standing = [FunctionCase::SharedUnknown, FunctionCase::UnusedArrow];
+    others.0.assert_each(changes.into_iter().chain(standing).map(|case| (case, true)), 20);
+}
+
+#[test]
+fn programs_about_functions_are_closed() {
+    let mut random = Random::seeded(63);
+    for _ in 0..500 {
+        assert!(table(&functions(&mut random)).closed());
+    }
+}
+
+#[test]
 fn all_verdicts_occur_in_deep_and_long_programs() {
-    for generate in [doubling, chain] {
+    for generate in [doubling, chain, functions] {
         let mut random = Random::seeded(36);
         let mut counts = Counts::default();
         for _ in 0..400 {

@@ -8,7 +8,7 @@ use second::generate::{closed_program, Random};
 use second::qualifier::{at_or_below, Qualifier};
 use second::rows::Term;
 use second::schemes::Code;
-use second::typing::{judge, Judgement, NoTyping};
+use second::typing::{judge, Judgement, NoTyping, Shape, Slot};
 use second::Table;
 
 #[test]
@@ -88,9 +88,11 @@ fn an_unused_number_is_rand() {
     // The body of a LAM of each parameter, and the argument of a function that ignores it.
     for word in WORDS {
         let declared = format!("T,0,ANY P,0,{word},0");
+        // What a scheme stands with is no function.
+        let shape = if word == "PLAIN" { "ANY" } else { "INT" };
         assert_prints(
             &format!("{declared} E,0,NUM,1 E,1,LAM,0,0"),
-            &format!("OK,1,2 P,0,{word},ANY E,0,RAND,INT E,1,PLAIN,ARROW"),
+            &format!("OK,1,2 P,0,{word},{shape} E,0,RAND,INT E,1,PLAIN,ARROW"),
         );
         assert_prints(
             &format!("{declared} E,0,NUM,1 E,1,LAM,0,0 E,2,NUM,2 E,3,APP,1,2"),
@@ -140,8 +142,8 @@ fn an_application_ties_a_number_to_the_parameter() {
         "T,0,INT T,1,ARROW,g1,0,g2,0 P,0,g0,1 P,1,g1,0
          E,0,VAR,0 E,1,NUM,1 E,2,APP,0,1 E,3,VAR,0 E,4,NUM,2 E,5,APP,3,4 E,6,OP,EQ,2,5
          E,7,VAR,1 E,8,VAR,1 E,9,OP,LT,7,8 E,10,OP,ADD,6,9 E,11,LAM,1,10 E,12,LAM,0,11",
-        "OK,2,13 G,0,RAND G,1,OP G,2,DET P,0,RAND,ARROW P,1,OP,INT
-         E,0,RAND,ARROW E,1,OP,INT E,2,DET,INT E,3,RAND,ARROW E,4,OP,INT E,5,DET,INT
+        "OK,2,13 G,0,PLAIN G,1,OP G,2,DET P,0,PLAIN,ARROW P,1,OP,INT
+         E,0,PLAIN,ARROW E,1,OP,INT E,2,DET,INT E,3,PLAIN,ARROW E,4,OP,INT E,5,DET,INT
          E,6,PLAIN,INT E,7,OP,INT E,8,OP,INT E,9,PLAIN,INT E,10,PLAIN,INT E,11,PLAIN,ARROW
          E,12,PLAIN,ARROW",
     );
@@ -197,12 +199,28 @@ fn all_at_or_below(lower: &Judgement, upper: &Judgement) -> bool {
     pairs.all(|(lower, upper)| at_or_below(qualifier(lower), qualifier(upper)))
 }
 
-/// The judgement that is the greatest of several, if there are any.
-fn greatest(judgements: &[Judgement]) -> Option<&Judgement> {
+/// The shape of a slot that has these shapes in parts of the typings.
+fn united(one: Shape, other: Shape) -> Shape {
+    match one == other {
+        true => one,
+        false => Shape::Any,
+    }
+}
+
+/// The words of the greatest of several judgements, with the shapes that all of them leave.
+fn united_judgement(judgements: &[Judgement]) -> Judgement {
     let is_greatest = |upper: &&Judgement| judgements.iter().all(|it| all_at_or_below(it, upper));
-    let greatest = judgements.iter().find(is_greatest);
-    assert!(judgements.is_empty() || greatest.is_some(), "{judgements:?} have no greatest one");
-    greatest
+    let greatest = judgements.iter().find(is_greatest).expect("one is the greatest");
+    let mut all = greatest.clone();
+    let unite = |slots: &mut [Slot], others: &[Slot]| {
+        let pairs = slots.iter_mut().zip(others);
+        pairs.for_each(|(slot, other)| slot.shape = united(slot.shape, other.shape));
+    };
+    for judgement in judgements {
+        unite(&mut all.params, &judgement.params);
+        unite(&mut all.terms, &judgement.terms);
+    }
+    all
 }
 
 /// Asserts that a table's typings are those of the tables in which each number has one fixed qualifier.
@@ -218,7 +236,7 @@ fn assert_judged_by_choices(table: &Table) -> u32 {
     }
     match judge(table) {
         Ok(judgement) => {
-            assert_eq!(Some(&judgement), greatest(&accepted), "in {table:?}");
+            assert_eq!(judgement, united_judgement(&accepted), "in {table:?}");
             0
         }
         Err(NoTyping { number, row }) => {

@@ -108,13 +108,13 @@ fn without_an_operation_the_greatest_scheme_is_reported() {
             "T,0,ANY P,0,g5,0 E,0,VAR,0 E,1,LAM,0,0",
             &format!("OK,1,2 G,5,{greatest} P,0,{greatest},ANY E,0,{greatest},ANY E,1,PLAIN,ARROW"),
         );
-        // The function, its argument and its result are tied to nothing.
+        // The function is PLAIN; its argument and its result are tied to nothing.
         assert_report_under(
             file,
             "T,0,ANY P,0,g0,0 E,0,VAR,0 E,1,NUM,3 E,2,APP,0,1 E,3,LAM,0,2",
             &format!(
-                "OK,1,4 G,0,{greatest} P,0,{greatest},ARROW E,0,{greatest},ARROW
-                 E,1,{greatest},INT E,2,{greatest},ANY E,3,PLAIN,ARROW"
+                "OK,1,4 G,0,PLAIN P,0,PLAIN,ARROW E,0,PLAIN,ARROW E,1,{greatest},INT
+                 E,2,{greatest},ANY E,3,PLAIN,ARROW"
             ),
         );
     }
@@ -253,7 +253,7 @@ fn names_that_are_other_words_stand_in_lines_and_reports() {
     assert_report_under(
         "S,E,00000 S,G,10000",
         "T,0,ANY T,1,ARROW,e,0,g,0 P,0,g7,1 E,0,VAR,0 E,1,NUM,4 E,2,APP,0,1 E,3,LAM,0,2",
-        "OK,1,4 G,7,E P,0,E,ARROW E,0,E,ARROW E,1,E,INT E,2,G,INT E,3,PLAIN,ARROW",
+        "OK,1,4 G,7,PLAIN P,0,PLAIN,ARROW E,0,PLAIN,ARROW E,1,E,INT E,2,G,INT E,3,PLAIN,ARROW",
     );
 }
 

@@ -6,7 +6,7 @@ use common::{make, text, Infers};
 use second::counts::Counts;
 use second::generate::{
     accepted_file, accepted_file_of, call_list, call_list_under, chain_under, changed_line_under,
-    damaged_text, damaged_text_under, deep, doubling_under, program_with_floors,
+    damaged_text, damaged_text_under, deep, doubling_under, functions_under, program_with_floors,
     program_with_floors_under, text_of_table, text_with_floors_under, what_if_list_under, Call,
     Program, Random, SchemeProperty,
 };
@@ -97,7 +97,7 @@ fn reports_have_the_words_of_the_file() {
 
 #[test]
 fn all_verdicts_occur_in_deep_and_long_programs() {
-    for generate in [doubling_under, chain_under] {
+    for generate in [doubling_under, chain_under, functions_under] {
         let mut random = Random::seeded(84);
         let mut counts = Counts::default();
         for _ in 0..800 {

@@ -13,7 +13,7 @@ fn shapes_decide_before_constants_in_one_row() {
     assert_prints("T,0,INT P,0,AH,0 E,0,VAR,0 E,1,LAM,0,0 E,2,ENC,AH,1 E,3,OP,ADD,1,2", "NO,21,3");
     // Beneath the arrows, the arguments differ in their qualifiers and the results in their shapes.
     assert_prints(
-        "T,0,INT T,1,ARROW,AH,0,AH,0 T,2,ARROW,MH,0,AH,1 P,0,g0,1 P,1,g1,2 P,2,g2,0
+        "T,0,INT T,1,ARROW,AH,0,AH,0 T,2,ARROW,MH,0,PLAIN,1 P,0,g0,1 P,1,g1,2 P,2,g2,0
          E,0,VAR,1 E,1,LAM,1,0 E,2,VAR,0 E,3,APP,1,2 E,4,LAM,0,3 E,5,LAM,2,4",
         "NO,21,3",
     );
@@ -152,7 +152,7 @@ fn a_type_does_not_contain_itself() {
     // Two ANY rows are two unknowns.
     assert_prints(
         &format!("{both} E,0,VAR,0 E,1,VAR,1 E,2,APP,0,1 E,3,LAM,1,2 E,4,LAM,0,3"),
-        "OK,2,5 G,0,RAND G,1,RAND P,0,RAND,ARROW P,1,RAND,ANY E,0,RAND,ARROW E,1,RAND,ANY
+        "OK,2,5 G,0,PLAIN G,1,RAND P,0,PLAIN,ARROW P,1,RAND,ANY E,0,PLAIN,ARROW E,1,RAND,ANY
          E,2,RAND,ANY E,3,PLAIN,ARROW E,4,PLAIN,ARROW",
     );
     // The result of a function of row 1 is row 0, and row 1 is an arrow from row 0.
@@ -204,11 +204,16 @@ fn declarations_after_a_row_count_in_every_prefix() {
         "E,0,NUM,1 T,0,ANY P,0,g0,0 E,1,LAM,0,0 T,1,ARROW,g0,0,g9,0",
         "OK,1,2 G,0,RAND G,9,RAND P,0,RAND,ANY E,0,RAND,INT E,1,PLAIN,ARROW",
     );
-    // Declarations alone never break a row: the row of the APP is the least one.
-    assert_prints(
-        "E,0,NUM,1 E,1,NUM,1 E,2,APP,0,1 T,0,INT T,1,ARROW,AH,0,MH,0 P,0,AH,1 E,3,LAM,0,2",
-        "NO,21,2",
-    );
+    // The declarations alone have a typing: the row of the APP is the least one.
+    let program = |qualifier: &str| {
+        format!(
+            "E,0,NUM,1 E,1,NUM,1 E,2,APP,0,1 T,0,INT T,1,ARROW,AH,0,MH,0 P,0,{qualifier},1
+             E,3,LAM,0,2"
+        )
+    };
+    assert_prints(&program("g0"), "NO,21,2");
+    // A function under AH: no row is needed for that, wherever the lines stand.
+    assert_prints(&program("AH"), "NO,22,0");
 }
 
 #[test]
@@ -217,7 +222,7 @@ fn named_variables_are_shared() {
     assert_prints(
         "T,0,INT T,1,ARROW,g0,0,g1,0 P,0,g0,0 P,1,g2,1
          E,0,VAR,0 E,1,VAR,0 E,2,OP,LT,0,1 E,3,LAM,0,2 E,4,LAM,1,3",
-        "OK,2,5 G,0,OP G,1,RAND G,2,RAND P,0,OP,INT P,1,RAND,ARROW E,0,OP,INT E,1,OP,INT
+        "OK,2,5 G,0,OP G,1,RAND G,2,PLAIN P,0,OP,INT P,1,PLAIN,ARROW E,0,OP,INT E,1,OP,INT
          E,2,PLAIN,INT E,3,PLAIN,ARROW E,4,PLAIN,ARROW",
     );
     // x of g0 and y of g0 with different constants elsewhere.
@@ -230,10 +235,10 @@ fn named_variables_are_shared() {
 
 #[test]
 fn results_of_unknown_functions_take_constants() {
-    // f NUM + AH: the result of f is AH INT; f itself is unlimited.
+    // f NUM + AH: the result of f is AH INT; f itself is PLAIN, and its argument unlimited.
     assert_prints(
         "T,0,ANY P,0,g0,0 E,0,VAR,0 E,1,NUM,1 E,2,APP,0,1 E,3,ENC,AH,1 E,4,OP,ADD,2,3 E,5,LAM,0,4",
-        "OK,1,6 G,0,RAND P,0,RAND,ARROW E,0,RAND,ARROW E,1,RAND,INT E,2,AH,INT E,3,AH,INT
+        "OK,1,6 G,0,PLAIN P,0,PLAIN,ARROW E,0,PLAIN,ARROW E,1,RAND,INT E,2,AH,INT E,3,AH,INT
          E,4,AH,INT E,5,PLAIN,ARROW",
     );
     // f DET, and f RAND: the argument's qualifier would have to be two constants.

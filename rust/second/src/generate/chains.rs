@@ -30,11 +30,11 @@ pub fn doubling_under(random: &mut Random, schemes: &SchemeTable) -> Vec<u8> {
     let qualifiers = Qualifiers::random(random, schemes);
     let mut lines = String::from(if random.one_in(2) { "T,0,ANY" } else { "T,0,INT" });
     for row in 1..64 {
-        let (argument, result) = (qualifiers.text(random), qualifiers.text(random));
+        let [argument, result] = [(); 2].map(|()| qualifiers.of_type(random, row - 1));
         lines += &format!(" T,{row},ARROW,{argument},{0},{result},{0}", row - 1);
     }
     for parameter in 0..64 {
-        lines += &format!(" P,{parameter},{},{parameter}", qualifiers.text(random));
+        lines += &format!(" P,{parameter},{},{parameter}", qualifiers.of_type(random, parameter));
     }
     let wrong = if random.one_in(4) { random.below(63) } else { 63 };
     lines += " E,0,VAR,63";
@@ -173,6 +173,9 @@ struct Qualifiers<'a> {
     departures: usize,
 }
 
+/// Once in so many qualifiers of the functions of a program one is any word, where the program departs.
+const ENCRYPTED_FUNCTIONS: usize = 300;
+
 impl<'a> Qualifiers<'a> {
     /// The qualifiers of a program.
     fn random(random: &mut Random, schemes: &'a SchemeTable) -> Qualifiers<'a> {
@@ -180,10 +183,26 @@ impl<'a> Qualifiers<'a> {
         Qualifiers { schemes, usual, departures: [0, 0, 30][random.below(3)] }
     }
 
+    /// One qualifier for a type row of which only row 0 is no function: a scheme at a function is rare, as one refuses the program.
+    fn of_type(&self, random: &mut Random, row: usize) -> String {
+        match row {
+            0 if random.one_in(5) => self.word(random),
+            0 => self.text(random),
+            _ if self.departures > 0 && random.one_in(ENCRYPTED_FUNCTIONS) => self.word(random),
+            // Functions have the first variables, and row 0 may have one of the others.
+            _ => format!("g{}", random.below(32)),
+        }
+    }
+
+    /// Any qualifier word.
+    fn word(&self, random: &mut Random) -> String {
+        self.schemes.word(any_word(random, self.schemes)).to_string()
+    }
+
     /// One qualifier.
     fn text(&self, random: &mut Random) -> String {
         if random.one_in(self.departures) {
-            return self.schemes.word(any_word(random, self.schemes)).to_string();
+            return self.word(random);
         }
         match self.usual {
             Some(usual) => code_text(self.schemes, usual),

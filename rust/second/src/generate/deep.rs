@@ -44,8 +44,38 @@ pub fn chains_of_different_lengths(lowest: &str) -> String {
     format!(
         "T,0,{lowest} {} P,0,PLAIN,62 P,1,PLAIN,63
          E,0,VAR,0 E,1,LAM,0,0 E,2,VAR,1 E,3,APP,1,2 E,4,LAM,1,3",
-        doubling_rows(1, 63, 1, "AH")
+        doubling_rows(1, 63, 1, "PLAIN")
     )
+}
+
+/// Row 63 has 2 to the 63 paths, and the last of its qualifiers stands with row 62: the lines alone have no typing if it is a scheme.
+pub fn shared_type_under(qualifier: &str) -> String {
+    format!(
+        "T,0,INT {} T,63,ARROW,PLAIN,62,{qualifier},62 P,0,PLAIN,63 E,0,VAR,0 E,1,LAM,0,0",
+        doubling_rows(1, 62, 1, "PLAIN")
+    )
+}
+
+/// The types of 30 parameters are made one by functions that give their argument, and then the result is applied.
+///
+/// Each of the 30 ANY rows has a second parameter that no row names; the last one is declared by this qualifier.
+pub fn joined_functions(last: &str) -> String {
+    let mut lines: String = (0..30).map(|row| format!(" T,{row},ANY")).collect();
+    for own in 0..60 {
+        let qualifier = if own == 59 { last.to_string() } else { format!("g{own}") };
+        lines += &format!(" P,{own},{qualifier},{}", own % 30);
+    }
+    lines += " E,0,VAR,0";
+    for own in 1..30 {
+        let row = 3 * own - 2;
+        lines += &format!(" E,{row},VAR,{own} E,{},LAM,{own},{row}", row + 1);
+        lines += &format!(" E,{},APP,{},{}", row + 2, row + 1, row - 1);
+    }
+    lines += " E,88,NUM,1 E,89,APP,87,88 E,90,LAM,0,89";
+    for own in 30..60 {
+        lines += &format!(" E,{},LAM,{own},{}", own + 61, own + 60);
+    }
+    lines
 }
 
 /// Applications that build a type with many paths: y_k = x_k (x_k x_(k-1)) gives x_k an arrow
@@ -240,6 +270,7 @@ pub fn all() -> Vec<(&'static str, String)> {
         ("two doubling chains that clash at their ends", two_doubling_chains("INT", arrow)),
         ("chains of different lengths over INT", chains_of_different_lengths("INT")),
         ("chains of different lengths over ANY", chains_of_different_lengths("ANY")),
+        ("a shared type with a scheme at its end", shared_type_under("AH")),
         ("a shared type of terms", shared_type_of_terms("ANY", "ANY")),
         ("a shared type of terms that clashes", shared_type_of_terms("INT", "ARROW,g0,1,g0,1")),
         ("a long sum", long_sum()),
@@ -253,6 +284,8 @@ pub fn all() -> Vec<(&'static str, String)> {
         ("long types with one constant", long_types(["NUM,1", "ENC,AH,1"], "OP,ADD")),
         ("long types with two constants", long_types(["ENC,MH,1", "ENC,AH,1"], "OP,ADD")),
         ("long types that clash", long_types(["NUM,1", "NUM,1"], "APP")),
+        ("joined functions", joined_functions("g59")),
+        ("joined functions of which one is declared AH", joined_functions("AH")),
         ("towers of arrows", towers_of_arrows(61, 61)),
         ("towers of arrows of different heights", towers_of_arrows(60, 62)),
         ("parameters joined in rising order", joined_parameters(false)),

@@ -24,6 +24,11 @@ pub fn program_with_floors_under(
     rows: usize,
 ) -> Program {
     let program = closed_program_under(random, schemes, rows);
+    with_floors_in_any_case(random, program)
+}
+
+/// The program with floors in two of three cases, and its words in any case.
+pub fn with_floors_in_any_case(random: &mut Random, program: Program) -> Program {
     let mut program = with_floors(random, program);
     for line in &mut program.lines {
         *line = String::from_utf8_lossy(&in_any_case(random, line.as_bytes())).into_owned();

@@ -109,7 +109,7 @@ impl QualifierPlan {
         }
         let argument = self.goal(random, depth - 1);
         let result = self.goal(random, depth - 1);
-        // A function is PLAIN by its rule, so arrows have the class of PLAIN.
+        // Functions cannot be ciphertext, so arrows have the class of PLAIN.
         Goal { class: 0, aim: Aim::Arrow(Box::new(argument), Box::new(result)) }
     }
 }

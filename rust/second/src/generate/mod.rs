@@ -4,6 +4,8 @@ mod calls;
 mod chains;
 mod damage;
 mod floors;
+mod function_cases;
+mod functions;
 mod goals;
 mod jobs;
 mod letter_case;
@@ -31,6 +33,8 @@ pub use floors::{
     program_with_floors, program_with_floors_under, text_with_floors, text_with_floors_under,
     Floors,
 };
+pub use function_cases::{FunctionCase, FunctionCounts};
+pub use functions::{functions, functions_under};
 pub use jobs::{Job, JobKind};
 pub use letter_case::{in_any_case, spellings, text_in_any_case, LetterCase};
 pub use letter_damage::LetterDamage;

@@ -115,10 +115,7 @@ impl<'a> Builder<'a> {
     fn outer_goals(&mut self, rows: usize) -> Vec<Goal> {
         let mut goals: Vec<Goal> = (0..self.plan.classes()).map(Goal::int).collect();
         for _ in 0..self.random.below(1 + (rows / 8).min(6)) {
-            let mut goal = self.plan.goal(self.random, 2);
-            // The qualifier of an applied parameter is free.
-            goal.class = self.random.below(self.plan.classes());
-            goals.push(goal);
+            goals.push(self.plan.goal(self.random, 2));
         }
         goals.truncate(if self.random.one_in(4) { 0 } else { rows / 2 });
         goals

@@ -1,7 +1,8 @@
 //! Random questions to a closed program: what if its parameters were declared otherwise, or its last rows were others?
 
 use super::calls::{lowered_and_restored, Call};
-use super::floors::program_with_floors_under;
+use super::floors::{program_with_floors_under, with_floors_in_any_case};
+use super::functions::function_program_under;
 use super::goals::{any_code, any_scheme, any_word};
 use super::letter_case::in_any_case;
 use super::random::Random;
@@ -18,16 +19,21 @@ pub fn what_if_list(random: &mut Random, rows: usize, questions: usize) -> Vec<C
     what_if_list_under(random, SchemeTable::six(), rows, questions)
 }
 
-/// Calls that build a closed program of up to so many rows and infer, then so many questions, each with an infer at its end.
+/// Calls that build a closed program and infer, then so many questions, each with an infer at its end.
 ///
-/// All calls but infers are accepted.
+/// The program has up to so many rows, or is one of any size about functions. All calls but infers are accepted.
 pub fn what_if_list_under(
     random: &mut Random,
     schemes: &SchemeTable,
     rows: usize,
     questions: usize,
 ) -> Vec<Call> {
-    let program = program_with_floors_under(random, schemes, rows);
+    let program = if random.one_in(8) {
+        let program = function_program_under(random, schemes);
+        with_floors_in_any_case(random, program)
+    } else {
+        program_with_floors_under(random, schemes, rows)
+    };
     // Only its parameters are kept as the calls leave them.
     let mut table = program.table();
     let lines: Vec<Vec<u8>> = program.lines.into_iter().map(String::into_bytes).collect();

@@ -1,11 +1,14 @@
 //! Compares what the solver says of one table with what the search finds, and counts the tables.
 
 use crate::search::{Found, Rules, Searched};
-use second::generate::NumberCounts;
+use second::generate::{FunctionCounts, NumberCounts};
 use second::report::LONGEST_REPORT;
 use second::schemes::PLAIN;
-use second::typing::{judge, Shape};
+use second::typing::{judge, judge_with_encrypted_functions, lines_have_typing, Shape};
 use second::{Answer, Table};
+
+/// How many rows have a typing; `None` where the T and P lines alone have none.
+type Rows = Option<usize>;
 
 /// How many tables of each kind a test met.
 #[derive(Debug, Default)]
@@ -18,6 +21,10 @@ pub struct Tally {
     floors: [usize; 3],
     /// The NUM rows of all tables.
     pub numbers: NumberCounts,
+    /// What the rule that functions are PLAIN means for the tables.
+    pub functions: FunctionCounts,
+    /// Slots of tables with a typing whose shapes were compared, by the shape: INT, an arrow, ANY.
+    shapes: [usize; 3],
 }
 
 impl Tally {
@@ -40,6 +47,11 @@ impl Tally {
         assert!(self.floors.iter().all(|&count| count >= fewest), "{self:?}");
     }
 
+    /// Asserts that so many shapes of each kind were compared.
+    pub fn assert_each_shape(&self, fewest: usize) {
+        assert!(self.shapes.iter().all(|&count| count >= fewest), "{self:?}");
+    }
+
     /// Counts a closed table that has a typing by how many of its floors are missed.
     fn count_floors(&mut self, table: &Table, missed: usize) {
         if table.params.iter().any(|parameter| parameter.floor != PLAIN) {
@@ -56,15 +68,16 @@ pub fn verdict(table: &Table) -> (u32, usize) {
     }
 }
 
-/// The same verdict from searches that respect more and more of the rules.
-fn searched_verdict(rows: usize, all: usize, without_bounds: usize, shapes: usize) -> (u32, usize) {
+/// The same verdict from how many of the rows have a typing by all rules, without bounds and without qualifiers.
+fn searched_verdict(rows: usize, all: Rows, without_bounds: Rows, shapes: Rows) -> (u32, usize) {
     let number = match all {
-        _ if all == rows => 0,
+        _ if all == Some(rows) => 0,
         _ if shapes == all => 21,
         _ if without_bounds == all => 22,
         _ => 23,
     };
-    (number, all)
+    // "Where the T and P lines alone have no typing, the row is 0."
+    (number, all.unwrap_or(0))
 }
 
 /// Asserts what infer answers for a table with this verdict by the typings found; counts the floors of a closed one.
@@ -103,17 +116,18 @@ fn assert_greatest_words(searched: Searched, found: &Found) {
     assert!(found.has_reported, "the words are no typing in {table:?}");
 }
 
-/// Asserts that the solver's shapes are those found.
-pub fn assert_shapes(table: &Table, found: &Found) {
+/// Asserts that the solver's shapes are those found, and counts them.
+fn compare_shapes(table: &Table, found: &Found, tally: &mut Tally) {
     let judgement = judge(table).unwrap();
     let slots = judgement.params.iter().chain(&judgement.terms);
     for (slot, &seen) in slots.zip(&found.shapes) {
-        let expected = match seen {
-            (true, true) => Shape::Any,
-            (true, false) => Shape::Int,
-            _ => Shape::Arrow,
+        let (expected, place) = match seen {
+            (true, true) => (Shape::Any, 2),
+            (true, false) => (Shape::Int, 0),
+            _ => (Shape::Arrow, 1),
         };
         assert_eq!(slot.shape, expected, "in {table:?}");
+        tally.shapes[place] += 1;
     }
 }
 
@@ -122,15 +136,17 @@ fn compare_found(
     searched: Searched,
     depth: usize,
     all: &Found,
-    shapes: usize,
+    shapes: Rows,
     tally: &mut Tally,
 ) -> bool {
     let table = searched.table;
     let without_bounds = searched.most_rows(Rules::WithoutBounds, depth);
     let expected = searched_verdict(table.terms.len(), all.most_rows, without_bounds, shapes);
     assert_eq!(verdict(table), expected, "in {table:?}");
+    assert_eq!(lines_have_typing(table), all.most_rows.is_some(), "in {table:?}");
     tally.count(expected.0);
     tally.numbers.take(table);
+    tally.functions.take(table);
     if expected.0 == 0 {
         assert_greatest_words(searched, all);
     }
@@ -142,12 +158,17 @@ fn compare_found(
 pub fn compare_complete(searched: Searched, tally: &mut Tally) -> Found {
     let all = searched.typings(Rules::All, 0);
     if compare_found(searched, 0, &all, searched.rows_with_shapes(0), tally) {
-        assert_shapes(searched.table, &all);
+        compare_shapes(searched.table, &all, tally);
     }
+    let rows = match judge_with_encrypted_functions(searched.table) {
+        Ok(_) => searched.table.terms.len(),
+        Err(row) => row as usize,
+    };
+    assert_eq!(searched.most_rows(Rules::EncryptedFunctions, 0), Some(rows));
     all
 }
 
-/// Compares a table of at most three arrows and counts it; tells whether the depth suffices for it.
+/// Compares a table of at most three arrows and counts it, its shapes too if a lower depth suffices; tells whether the depth does.
 pub fn compare(searched: Searched, depth: usize, tally: &mut Tally) -> bool {
     let table = searched.table;
     // Depth 3 suffices for three arrows; a lower depth that reaches as far suffices too.
@@ -155,9 +176,13 @@ pub fn compare(searched: Searched, depth: usize, tally: &mut Tally) -> bool {
     let all = searched.typings(Rules::All, depth);
     if searched.rows_with_shapes(depth) != shapes {
         // A search that misses types still never reaches further than the solver.
-        assert!(all.most_rows <= verdict(table).1, "in {table:?}");
+        assert!(all.most_rows.unwrap_or(0) <= verdict(table).1, "in {table:?}");
         return false;
     }
-    compare_found(searched, depth, &all, shapes, tally);
+    let has_typing = compare_found(searched, depth, &all, shapes, tally);
+    // One level more than needed shows that a shape is free.
+    if has_typing && searched.rows_with_shapes(depth - 1) == shapes {
+        compare_shapes(table, &all, tally);
+    }
     true
 }

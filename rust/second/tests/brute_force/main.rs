@@ -6,13 +6,13 @@ mod owners;
 mod search;
 mod tables;
 
-use compare::{assert_shapes, compare, compare_complete, verdict, Tally};
+use compare::{compare, compare_complete, Tally};
 use order::Order;
-use search::{Rules, Searched};
-use second::generate::{possible_words, Place, Random};
-use second::typing::{judge, Shape};
+use search::Searched;
+use second::generate::{possible_words, FunctionCase, Place, Random};
+use second::schemes::SIX_FILE;
 use second::{SchemeTable, Table};
-use tables::{applying_table, closed_table, tiny_table, Limits};
+use tables::{applying_table, closed_table, function_table, tiny_table, Limits};
 
 /// Makes a random table under a scheme table within the limits.
 type Make = fn(&mut Random, &SchemeTable, &Limits) -> Table;
@@ -77,49 +77,75 @@ fn tables_that_apply_numbers_agree() {
     tally.numbers.operand_words.assert_each(possible_words(SchemeTable::six()), 5);
 }
 
-/// Compares the shapes of random tables; types nest at most as deep as there are arrows.
-fn compare_shapes(seed: u64, limits: &Limits) {
-    let mut random = Random::seeded(seed);
-    let (mut tally, mut free) = (Tally::default(), 0);
-    for _ in 0..400 {
-        let table = tiny_table(&mut random, SchemeTable::six(), limits);
-        let searched = Searched { order: &Order::six(), table: &table, variables: 0 };
-        // One level more than needed shows that a shape is free.
-        let found = searched.typings(Rules::WithoutQualifiers, limits.arrows + 1);
-        let (number, row) = verdict(&table);
-        tally.count(number);
-        match number {
-            0 => assert_shapes(&table, &found),
-            21 => assert_eq!(found.most_rows, row, "in {table:?}"),
-            _ => assert!(found.most_rows > row, "in {table:?}"),
-        }
-        if let Ok(judgement) = judge(&table) {
-            free += usize::from(judgement.terms.iter().any(|slot| slot.shape == Shape::Any));
-        }
-    }
-    assert!(tally.accepted > 50 && tally.refused[0] > 20 && free > 20, "{tally:?} {free}");
+/// Compares so many random tables of the six with types of depth 1.
+fn compare_tables(seed: u64, tables: usize, limits: &Limits, make: Make) -> Tally {
+    compare_under(SIX_FILE, 1, seed, tables, limits, make)
 }
+
+/// Compares so many random tables under a scheme file with types of a depth.
+fn compare_under(
+    file: &[u8],
+    depth: usize,
+    seed: u64,
+    tables: usize,
+    limits: &Limits,
+    make: Make,
+) -> Tally {
+    let (mut random, mut tally) = (Random::seeded(seed), Tally::default());
+    let (order, schemes) = (Order::of_file(file), SchemeTable::open(file).unwrap());
+    for _ in 0..tables {
+        let table = &make(&mut random, &schemes, limits);
+        compare(Searched { order: &order, table, variables: limits.variables }, depth, &mut tally);
+    }
+    tally
+}
+
+/// Few schemes leave time for deep types. This one supports a sum, and every other operation leaves PLAIN.
+const ONE_SCHEME: &[u8] = b"S,A,10000\n";
+
+/// The same below a scheme that supports nothing.
+const TWO_SCHEMES: &[u8] = b"S,R,00000\nS,A,10000\n";
 
 #[test]
 fn shapes_of_tables_with_one_unknown_type_agree() {
-    compare_shapes(6, &Limits { unknowns: 1, arrows: 3, constants: 9, variables: 2, rows: 7 });
+    let limits = Limits { unknowns: 1, arrows: 3, constants: 9, variables: 2, rows: 7 };
+    let tally = compare_under(ONE_SCHEME, 3, 6, 300, &limits, tiny_table);
+    tally.assert_each_verdict(51, [11; 3]);
+    tally.assert_each_shape(100);
 }
 
 #[test]
 fn shapes_of_tables_with_three_unknown_types_agree() {
-    compare_shapes(7, &Limits { unknowns: 3, arrows: 2, constants: 9, variables: 2, rows: 7 });
+    let limits = Limits { unknowns: 3, arrows: 3, constants: 9, variables: 1, rows: 7 };
+    let tally = compare_under(ONE_SCHEME, 2, 7, 60, &limits, tiny_table);
+    tally.assert_each_shape(10);
 }
 
-/// Compares so many random tables of the six with types of depth 1.
-fn compare_tables(seed: u64, tables: usize, limits: &Limits, make: Make) -> Tally {
-    let mut random = Random::seeded(seed);
-    let mut tally = Tally::default();
-    for _ in 0..tables {
-        let table = &make(&mut random, SchemeTable::six(), limits);
-        let searched = Searched { order: &Order::six(), table, variables: limits.variables };
-        compare(searched, 1, &mut tally);
-    }
-    tally
+#[test]
+fn tables_with_functions_agree() {
+    let limits = Limits { unknowns: 2, arrows: 3, constants: 0, variables: 1, rows: 0 };
+    let tally = compare_tables(13, 400, &limits, function_table);
+    tally.assert_each_verdict(41, [101, 61, 6]);
+    tally.assert_each_shape(20);
+    let refusals = [FunctionCase::LinesRefused, FunctionCase::RowsRefused];
+    tally.functions.0.assert_each(refusals.map(|case| (case, false)), 10);
+}
+
+#[test]
+fn tables_with_functions_agree_under_one_scheme() {
+    let limits = Limits { unknowns: 2, arrows: 3, constants: 0, variables: 2, rows: 0 };
+    let tally = compare_under(ONE_SCHEME, 2, 14, 1_500, &limits, function_table);
+    tally.assert_each_verdict(201, [401, 151, 21]);
+    tally.assert_each_shape(200);
+    tally.functions.assert_each(15);
+}
+
+#[test]
+fn tables_with_functions_agree_under_two_schemes() {
+    let limits = Limits { unknowns: 2, arrows: 3, constants: 0, variables: 1, rows: 0 };
+    let tally = compare_under(TWO_SCHEMES, 2, 15, 200, &limits, function_table);
+    tally.assert_each_verdict(21, [51, 31, 4]);
+    tally.assert_each_shape(20);
 }
 
 #[test]

@@ -26,7 +26,7 @@ impl Seen {
     /// Counts a table by what was found of it.
     fn take(&mut self, searched: Searched, found: &Found) {
         let (schemes, terms) = (searched.table.schemes(), &searched.table.terms);
-        let has_typing = found.most_rows == terms.len();
+        let has_typing = found.most_rows == Some(terms.len());
         for property in SchemeProperty::of(schemes) {
             self.properties.add((property, has_typing));
         }

@@ -7,6 +7,7 @@
 use crate::order::{Order, MOST_CODES};
 use second::operation::Operation;
 use second::rows::{Parameter, QualifiedRow, Term, TypeRow};
+use second::schemes::PLAIN;
 use second::typing::{judge, Judgement, Shape, Slot};
 use second::Table;
 use std::collections::HashMap;
@@ -46,12 +47,14 @@ impl Types {
         self.arrows.get(type_number.checked_sub(1)?).copied()
     }
 
-    /// All types up to a depth with the qualifiers of these codes.
+    /// All types up to a depth with the qualifiers of these codes, but for those with a function under a scheme inside.
     fn up_to_depth(&mut self, depth: usize, codes: u8) -> Vec<TypeNumber> {
         let mut found = vec![INT];
+        let codes_with = |number| if number == INT { 0..codes } else { PLAIN..PLAIN + 1 };
         for _ in 0..depth {
             let lower = found;
-            let qualified = |&number: &TypeNumber| (0..codes).map(move |code| (code, number));
+            let qualified =
+                |&number: &TypeNumber| codes_with(number).map(move |code| (code, number));
             let parts: Vec<QualifiedType> = lower.iter().flat_map(qualified).collect();
             found = vec![INT];
             for &argument in &parts {
@@ -67,6 +70,8 @@ impl Types {
 pub enum Rules {
     WithoutQualifiers,
     WithoutBounds,
+    /// All but that functions are PLAIN.
+    EncryptedFunctions,
     All,
 }
 
@@ -75,8 +80,13 @@ impl Rules {
     fn codes(self, order: &Order) -> u8 {
         match self {
             Rules::WithoutQualifiers => 1,
-            Rules::WithoutBounds | Rules::All => order.codes,
+            Rules::WithoutBounds | Rules::EncryptedFunctions | Rules::All => order.codes,
         }
+    }
+
+    /// Tells whether "at or below" in OP counts.
+    fn have_bounds(self) -> bool {
+        matches!(self, Rules::EncryptedFunctions | Rules::All)
     }
 }
 
@@ -158,6 +168,27 @@ impl Check<'_> {
         }
     }
 
+    /// "Wherever a qualifier stands with an arrow, in a typing or inside one of its types, it is PLAIN."
+    fn has_plain_functions(&self, (qualifier, type_number): QualifiedType) -> bool {
+        match self.types.parts(type_number) {
+            _ if self.rules == Rules::EncryptedFunctions => true,
+            None => true,
+            Some((argument, result)) => {
+                qualifier == PLAIN
+                    && self.has_plain_functions(argument)
+                    && self.has_plain_functions(result)
+            }
+        }
+    }
+
+    /// Tells whether the choice is a typing of the T and P lines; a type row has no qualifier of its own.
+    fn lines_hold(&self) -> bool {
+        let mut types = self.type_rows.iter().map(|&type_number| (PLAIN, type_number));
+        let mut params = self.table.params.iter().map(|it| self.declared(it.declared()));
+        types.all(|it| self.has_plain_functions(it))
+            && params.all(|it| self.has_plain_functions(it))
+    }
+
     /// The qualified type of a term row by its rule, if it has one.
     fn rule(&mut self, term: Term) -> Option<QualifiedType> {
         let row = |number: u16| self.rows[usize::from(number)];
@@ -193,18 +224,18 @@ impl Check<'_> {
             Operation::Eq | Operation::Lt | Operation::Gt => self.qualifier(0),
         };
         let integers = left.1 == INT && right.1 == INT;
-        let supported = self.rules != Rules::All || self.order.supports(left.0, operation);
+        let supported = !self.rules.have_bounds() || self.order.supports(left.0, operation);
         (integers && left.0 == right.0 && supported).then_some((result, INT))
     }
 
     /// Tells whether nothing that is wanted is left to find.
     fn is_over(&self, found: &Found) -> bool {
-        self.wanted == Wanted::MostRows && found.most_rows == self.table.terms.len()
+        self.wanted == Wanted::MostRows && found.most_rows == Some(self.table.terms.len())
     }
 
     /// Takes all typings that begin with the rows so far.
     fn visit(&mut self, found: &mut Found) {
-        found.most_rows = found.most_rows.max(self.rows.len());
+        found.most_rows = found.most_rows.max(Some(self.rows.len()));
         if self.is_over(found) {
             return;
         }
@@ -229,7 +260,7 @@ impl Check<'_> {
                 self.visit_row(term, others, found);
             }
             self.rows[number].0 = UNDECIDED;
-        } else if let Some(qualified) = self.rule(term) {
+        } else if let Some(qualified) = self.rule(term).filter(|&it| self.has_plain_functions(it)) {
             self.rows.push(qualified);
             self.visit(found);
             self.rows.pop();
@@ -247,8 +278,8 @@ impl Check<'_> {
 /// What the search finds about one table.
 #[derive(Default)]
 pub struct Found {
-    /// The greatest number of rows from row 0 on that have a typing.
-    pub most_rows: usize,
+    /// The greatest number of rows from row 0 on that have a typing; `None` where the T and P lines alone have none.
+    pub most_rows: Option<usize>,
     /// The qualifiers of each variable, parameter and row in all typings of the whole table, a bit for each code.
     words: Vec<CodeSet>,
     /// Whether each parameter and row is INT, and whether it is an arrow, in some typing.
@@ -344,13 +375,13 @@ impl Searched<'_> {
         self.try_choices(rules, depth, Wanted::Typings)
     }
 
-    /// How many rows from row 0 on have such a typing.
-    pub fn most_rows(self, rules: Rules, depth: usize) -> usize {
+    /// How many rows from row 0 on have such a typing; `None` where the T and P lines alone have none.
+    pub fn most_rows(self, rules: Rules, depth: usize) -> Option<usize> {
         self.try_choices(rules, depth, Wanted::MostRows).most_rows
     }
 
     /// The rows that have a typing without qualifiers, with types up to a depth.
-    pub fn rows_with_shapes(self, depth: usize) -> usize {
+    pub fn rows_with_shapes(self, depth: usize) -> Option<usize> {
         Searched { variables: 0, ..self }.most_rows(Rules::WithoutQualifiers, depth)
     }
 
@@ -373,7 +404,9 @@ impl Searched<'_> {
         loop {
             check.choice.take(&digits, &candidates);
             check.take_type_rows();
-            check.visit(&mut found);
+            if check.lines_hold() {
+                check.visit(&mut found);
+            }
             if check.is_over(&found) || !advance(&mut digits, &limits) {
                 return found;
             }

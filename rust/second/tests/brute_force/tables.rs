@@ -136,6 +136,75 @@ pub fn applying_table(random: &mut Random, schemes: &SchemeTable, limits: &Limit
     table
 }
 
+/// A random closed table about functions of ANY rows: parameters of any qualifiers are applied, handed to functions that give them back, or not used, and what comes out is applied too.
+///
+/// The last parameter is that of a function that gives its argument. The limits on ENC and term rows do not count.
+pub fn function_table(random: &mut Random, schemes: &SchemeTable, limits: &Limits) -> Table {
+    let words = Words::random(random, schemes);
+    let mut table = Table::fresh_of(schemes.clone());
+    let arrows = declare_types(random, &mut table, limits, &words);
+    for own in 0..random.between(2, 4) {
+        let (qualifier, type_row) =
+            (words.qualifier(random, limits), random.below(table.types.len()));
+        let floor =
+            if random.one_in(4) { &words.floors[random.below(words.floors.len())] } else { "" };
+        table.add(format!("P,{own},{qualifier},{type_row}{floor}").as_bytes());
+    }
+    apply(random, &mut table, arrows, &words);
+    close(random, &mut table);
+    table
+}
+
+/// Declares the ANY rows, perhaps INT, and arrows over any of them; gives how many arrows the limits leave.
+fn declare_types(random: &mut Random, table: &mut Table, limits: &Limits, words: &Words) -> usize {
+    for own in 0..limits.unknowns {
+        table.add(format!("T,{own},ANY").as_bytes());
+    }
+    if random.one_in(3) {
+        table.add(format!("T,{},INT", limits.unknowns).as_bytes());
+    }
+    let arrows = random.below(limits.arrows);
+    for _ in 0..arrows {
+        let mut part = || {
+            let qualifier = words.qualifier(random, limits);
+            format!("{qualifier},{}", random.below(table.types.len()))
+        };
+        let line = format!("T,{},ARROW,{},{}", table.types.len(), part(), part());
+        assert_eq!(table.add(line.as_bytes()), 0, "for {line}");
+    }
+    limits.arrows - arrows
+}
+
+/// Adds a VAR and what is made of it with so many LAM and APP rows.
+fn apply(random: &mut Random, table: &mut Table, mut arrows: usize, words: &Words) {
+    let last = table.params.len() - 1;
+    if random.one_in(3) {
+        // Its result is joined to the others' at the end.
+        let parameter = random.below(last);
+        let (one, other) =
+            (add_row(table, format!("VAR,{parameter}")), leaf(random, table, parameter, words));
+        add_operation(random, table, one, other);
+    }
+    let mut row = add_row(table, format!("VAR,{}", random.below(last)));
+    let mut may_join = true;
+    while arrows > 0 {
+        let (function, argument) = match random.below(4) {
+            0 if may_join && arrows > 1 => {
+                (may_join, arrows) = (false, arrows - 1);
+                let body = add_row(table, format!("VAR,{last}"));
+                (add_row(table, format!("LAM,{last},{body}")), row)
+            }
+            1 => (add_row(table, format!("VAR,{}", random.below(last))), row),
+            _ => {
+                let parameter = random.below(last);
+                (row, leaf(random, table, parameter, words))
+            }
+        };
+        row = add_row(table, format!("APP,{function},{argument}"));
+        arrows -= 1;
+    }
+}
+
 /// A random closed table in which one qualifier has several bounds: sums and products of one another, and any operation at the end.
 ///
 /// Leaves are VARs of three parameters, and numbers. Only the limit on variables counts.
