@@ -13,6 +13,7 @@ mod qualifiers;
 mod reader;
 mod report;
 mod solver;
+mod standing;
 mod types;
 mod words;
 

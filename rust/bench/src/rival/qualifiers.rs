@@ -7,6 +7,9 @@ use second::Table;
 /// The number of a qualifier node: a code from 0 to 70, or an unknown qualifier of a row.
 pub type Node = u16;
 
+/// The node of PLAIN.
+pub const PLAIN: Node = 0;
+
 /// The codes, and an unknown qualifier for each row.
 const NODES: usize = CODES + Table::TERM_LIMIT;
 const CODES: usize = GREATEST_CODE as usize + 1;
@@ -107,6 +110,13 @@ impl Qualifiers {
         } else {
             class.constant
         }
+    }
+
+    /// Tells whether a node's class holds a scheme; a bound is none.
+    pub fn is_scheme(&mut self, node: Node) -> bool {
+        let root = self.find(node);
+        let constant = self.class[root].constant;
+        Node::from(constant) != PLAIN && constant != NONE
     }
 
     /// Notes whether a changed class has become impossible.
