@@ -14,6 +14,9 @@ pub const PLAIN: Node = 0;
 const NODES: usize = CODES + Table::TERM_LIMIT;
 const CODES: usize = GREATEST_CODE as usize + 1;
 
+/// PLAIN has this rank from the start, so that it stays a root.
+const GREATEST_RANK: u8 = u8::MAX;
+
 /// Stands in the place of a constant where a class has none.
 const NONE: u8 = FIRST_VARIABLE_CODE;
 const RAND: u8 = 6;
@@ -61,6 +64,7 @@ impl Qualifiers {
             self.fresh();
             self.class[code].constant = NONE.min(code as u8);
         }
+        self.class[usize::from(PLAIN)].rank = GREATEST_RANK;
     }
 
     /// A new unknown qualifier.
@@ -91,6 +95,16 @@ impl Qualifiers {
         };
         self.test(kept);
         true
+    }
+
+    /// Makes a qualifier PLAIN, which is below every bound; false where it is a scheme.
+    pub fn make_plain(&mut self, node: Node) -> bool {
+        let root = self.find(node);
+        if self.class[root].constant == NONE {
+            self.parent[root] = PLAIN;
+            return true;
+        }
+        root == usize::from(PLAIN)
     }
 
     /// Keeps a qualifier at or below a scheme.

@@ -1,6 +1,6 @@
 //! The rules of the rows, and the words and shapes of all slots.
 
-use super::qualifiers::{self, Qualifiers, PLAIN};
+use super::qualifiers::{Qualifiers, PLAIN};
 use super::types::{Failure, Kind, Qualified, Types, INT};
 use second::operation::Operation;
 use second::qualifier::{FIRST_VARIABLE_CODE, NAMED_VARIABLES};
@@ -143,7 +143,7 @@ impl Solver {
         match self.types.kind(node.into()) {
             Kind::Int => {}
             Kind::Unknown => self.types.stand(node, qualifier),
-            Kind::Arrow => self.unite(qualifier, PLAIN)?,
+            Kind::Arrow => possible(self.qualifiers.make_plain(qualifier))?,
         }
         Ok(())
     }
@@ -173,7 +173,7 @@ impl Solver {
     /// The rule of APP: a function that is an arrow already gives its own result.
     fn apply(&mut self, function: Qualified, argument: Qualified) -> Result<Qualified, Stop> {
         let root = self.types.find(function.node);
-        self.types.pairs.clear();
+        self.types.next_row();
         let result = match self.types.kind(root) {
             Kind::Int => return Err(Stop::Types(Failure::Clash)),
             Kind::Unknown => {
@@ -186,7 +186,7 @@ impl Solver {
                 result
             }
         };
-        self.unite_pairs()?;
+        self.take_noted()?;
         Ok(result)
     }
 
@@ -199,7 +199,7 @@ impl Solver {
     ) -> Result<Qualified, Stop> {
         self.types.make_int(left.node)?;
         self.types.make_int(right.node)?;
-        self.unite(left.qualifier, right.qualifier)?;
+        possible(self.qualifiers.unite(left.qualifier, right.qualifier))?;
         self.qualifiers.restrict(left.qualifier, operation.highest_scheme().code());
         self.within_bounds()?;
         Ok(match operation.keeps_qualifier() {
@@ -208,20 +208,13 @@ impl Solver {
         })
     }
 
-    /// Makes two qualifiers one.
-    fn unite(&mut self, left: qualifiers::Node, right: qualifiers::Node) -> Result<(), Stop> {
-        match self.qualifiers.unite(left, right) {
-            true => Ok(()),
-            false => Err(Stop::Apart),
-        }
-    }
-
-    /// Makes the noted qualifiers one, all of them before the bounds are judged.
-    fn unite_pairs(&mut self) -> Result<(), Stop> {
+    /// Takes the noted qualifiers, all of them before the bounds are judged.
+    fn take_noted(&mut self) -> Result<(), Stop> {
         for &(left, right) in &self.types.pairs {
-            if !self.qualifiers.unite(left, right) {
-                return Err(Stop::Apart);
-            }
+            possible(self.qualifiers.unite(left, right))?;
+        }
+        for &qualifier in &self.types.plain {
+            possible(self.qualifiers.make_plain(qualifier))?;
         }
         self.within_bounds()
     }
@@ -268,6 +261,11 @@ impl Solver {
         }
         Slot { word: self.qualifiers.word(qualified.qualifier), shape: self.types.kind(root) }
     }
+}
+
+/// Refuses what would make two constants one.
+fn possible(made: bool) -> Result<(), Stop> {
+    made.then_some(()).ok_or(Stop::Apart)
 }
 
 /// The qualified type that a line declares.

@@ -51,9 +51,9 @@ impl Standing {
         self.pairs[left].next = std::mem::replace(&mut self.pairs[right].next, next);
     }
 
-    /// Takes all but the root's own pair out of its ring.
-    pub fn leave(&mut self, root: usize) {
-        self.pairs[root].next = root as u16;
+    /// Empties the ring of a root.
+    pub fn empty(&mut self, root: usize) {
+        self.begin(root as types::Node, PLAIN);
     }
 
     /// The qualifiers in the ring of a root, without PLAIN.

@@ -60,6 +60,8 @@ pub struct Types {
     standing: Standing,
     /// The qualifiers that the equations of the present row make one.
     pub pairs: Vec<(qualifiers::Node, qualifiers::Node)>,
+    /// The qualifiers that the equations of the present row make PLAIN.
+    pub plain: Vec<qualifiers::Node>,
 }
 
 impl Types {
@@ -74,7 +76,8 @@ impl Types {
             met: [0; NODES],
             searches: 0,
             standing: Standing::new(),
-            pairs: Vec::with_capacity(2 * NODES + PAIRS),
+            pairs: Vec::with_capacity(2 * NODES),
+            plain: Vec::with_capacity(PAIRS),
         }
     }
 
@@ -149,13 +152,20 @@ impl Types {
         self.standing.add(node, qualifier);
     }
 
+    /// Forgets the qualifiers that the row before made one or PLAIN.
+    pub fn next_row(&mut self) {
+        self.pairs.clear();
+        self.plain.clear();
+    }
+
     /// Makes an unknown root INT where a scheme stands with it; before all rows are taken this would make 21 of a 22.
+    #[inline(never)]
     pub fn settle(&mut self, root: usize, is_scheme: impl FnMut(qualifiers::Node) -> bool) {
         if self.standing.of(root).any(is_scheme) {
             self.kind[root] = Kind::Int;
         }
         // The next slot of this class need not look at all of them again.
-        self.standing.leave(root);
+        self.standing.empty(root);
     }
 
     /// Makes an unknown root an arrow from a type to a new unknown one, and notes the qualifiers that this makes PLAIN.
@@ -211,7 +221,7 @@ impl Types {
 
     /// Notes that what stands with an unknown root is PLAIN, as the root becomes an arrow.
     fn note_plain(&mut self, root: usize) {
-        self.pairs.extend(self.standing.of(root).map(|qualifier| (qualifier, PLAIN)));
+        self.plain.extend(self.standing.of(root));
     }
 
     /// Makes two qualified types one.
