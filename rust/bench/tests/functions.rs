@@ -136,7 +136,9 @@ fn an_unknown_type_under_a_scheme_is_int() {
 /// A table with PLAIN for its last parameter, and one with PLAIN for the parts of its last type row.
 fn with_plain(table: &Table) -> [Table; 2] {
     let (mut one, mut other) = (table.clone(), table.clone());
-    one.params.iter_mut().next_back().unwrap().qualifier = PLAIN;
+    if let Some(parameter) = one.params.last_mut() {
+        parameter.qualifier = PLAIN;
+    }
     if let Some(TypeRow::Arrow { argument, result }) = other.types.last_mut() {
         (argument.qualifier, result.qualifier) = (PLAIN, PLAIN);
     }
