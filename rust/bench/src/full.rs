@@ -39,7 +39,9 @@ fn fill_types(random: &mut Random, table: &mut Table) {
 /// Adds parameters with their LAMs until the list of parameters is full; the first LAMs are applied, as long as there are rows for it.
 fn fill_rows(random: &mut Random, table: &mut Table) {
     while table.params.len() < Table::PARAMETER_LIMIT {
-        add_lambda(random, table);
+        // The first type row is no arrow, so that the parameter can take a number.
+        let declared = any_qualifier_with(random, table, 0);
+        add_lambda(table, declared);
         let to_come = Table::PARAMETER_LIMIT - table.params.len();
         if table.terms.len() + to_come < FULL_ROWS {
             apply_to_number(table);
@@ -47,11 +49,10 @@ fn fill_rows(random: &mut Random, table: &mut Table) {
     }
 }
 
-/// Puts a LAM of a new parameter around a program; the parameter has the first type row, which is no arrow.
-fn add_lambda(random: &mut Random, table: &mut Table) {
+/// Puts a LAM of a new parameter around a program.
+pub fn add_lambda(table: &mut Table, QualifiedRow { qualifier, type_row }: QualifiedRow) {
     let (parameter, body) = (table.params.len() as u16, last_row(table));
-    let QualifiedRow { qualifier, .. } = any_qualified_row(random, table);
-    table.params.push(Parameter { qualifier, type_row: 0, floor: PLAIN });
+    table.params.push(Parameter { qualifier, type_row, floor: PLAIN });
     table.terms.push(Term::Lambda { parameter, body });
 }
 
@@ -68,8 +69,17 @@ fn last_row(table: &Table) -> u16 {
     table.terms.len() as u16 - 1
 }
 
-/// Any qualifier with any of a table's type rows.
+/// Any of a table's type rows with a qualifier.
 fn any_qualified_row(random: &mut Random, table: &Table) -> QualifiedRow {
-    let qualifier = random.between(0, GREATEST_CODE.into()) as Code;
-    QualifiedRow { qualifier, type_row: random.below(table.types.len()) as u16 }
+    let type_row = random.below(table.types.len());
+    any_qualifier_with(random, table, type_row)
+}
+
+/// A type row with any qualifier, but with PLAIN where it can be a function.
+fn any_qualifier_with(random: &mut Random, table: &Table, type_row: usize) -> QualifiedRow {
+    let qualifier = match table.types[type_row] {
+        TypeRow::Int => random.between(0, GREATEST_CODE.into()) as Code,
+        TypeRow::Any | TypeRow::Arrow { .. } => PLAIN,
+    };
+    QualifiedRow { qualifier, type_row: type_row as u16 }
 }

@@ -5,6 +5,8 @@
 mod deep_sharing;
 mod exported;
 mod full;
+mod functions;
+mod unknowns;
 
 pub mod answers;
 pub mod measure;

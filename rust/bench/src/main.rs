@@ -56,9 +56,11 @@ fn all_sets() -> Vec<(String, Vec<Sample>)> {
     let random = &mut Random::seeded(SEED);
     vec![
         ("A accepted".to_string(), sets::accepted(random, COUNT, 256)),
-        ("B refused".to_string(), sets::refused(random, COUNT)),
+        ("B refused".to_string(), sets::refused(random, COUNT, 256)),
         ("C deep sharing".to_string(), sets::shared(random, COUNT)),
         ("D full".to_string(), sets::full(random, COUNT)),
+        ("E functions only".to_string(), sets::functions_only(random, COUNT)),
+        ("F many unknowns".to_string(), sets::long_applications(random, COUNT)),
     ]
 }
 
@@ -67,11 +69,18 @@ fn sized_set(rows: usize) -> (String, Vec<Sample>) {
     (format!("{rows} rows"), sets::accepted(&mut Random::seeded(SEED), COUNT / 4, rows))
 }
 
+/// Refused tables of 32 rows, where what does not depend on the rows weighs most.
+fn small_refused_set() -> (String, Vec<Sample>) {
+    ("32 rows, refused".to_string(), sets::refused(&mut Random::seeded(SEED), COUNT / 4, 32))
+}
+
 /// Prints the times of all sets; false where an answer differs.
 fn print_times() -> bool {
     let sets = all_sets();
     let sized: Vec<_> = [32, 64, 128, 256].map(sized_set).into();
-    let differences: usize = sets.iter().chain(&sized).map(|(name, set)| compare(name, set)).sum();
+    let small = [small_refused_set()];
+    let compared = sets.iter().chain(&sized).chain(&small);
+    let differences: usize = compared.map(|(name, set)| compare(name, set)).sum();
     let mut sides = Sides::default();
     for (work, title) in WORKS {
         print_title(title, "us/table");
@@ -83,6 +92,10 @@ fn print_times() -> bool {
     for (name, set) in &sized {
         let rows = set.first().map_or(1, |sample| sample.table.terms.len());
         print_line(name, &sides.times(Work::Solve, set), 1_000.0 / rows as f64);
+    }
+    print_title("solver, refused", "us/table");
+    for (name, set) in &small {
+        print_line(name, &sides.times(Work::Solve, set), 1.0);
     }
     differences == 0
 }
@@ -124,7 +137,7 @@ fn compare(name: &str, set: &[Sample]) -> usize {
     differences
 }
 
-/// Writes some tables of each set to a file A, B, C or D; an empty line follows each table.
+/// Writes some tables of each set to a file that its letter names; an empty line follows each table.
 fn write(folder: &Path) -> io::Result<()> {
     for (name, set) in all_sets() {
         let texts = set.iter().step_by(WRITTEN).map(|sample| sample.text.as_slice());

@@ -2,7 +2,9 @@
 
 use crate::deep_sharing::deep_sharing;
 use crate::full::{full_program, FULL_ROWS};
+use crate::functions::under_schemes;
 use crate::rival::{Failure, Refusal, Rival};
+use crate::unknowns::long_application;
 use second::generate::{chain, closed_program, text_of_table, Random};
 use second::rows::Entry;
 use second::text::lines;
@@ -54,20 +56,22 @@ fn accepted_of(count: usize, rows: usize, make: impl FnMut() -> Table) -> Vec<Sa
     wanted.take(count).map(Sample::of_table).collect()
 }
 
-/// So many refused programs of 256 rows; the four causes have equal parts.
-pub fn refused(random: &mut Random, count: usize) -> Vec<Sample> {
+/// So many refused programs of exactly so many rows; the four causes have equal parts.
+pub fn refused(random: &mut Random, count: usize, rows: usize) -> Vec<Sample> {
     let mut rival = Rival::default();
     let mut found = [0; CAUSES];
-    let mut programs = std::iter::repeat_with(|| match random.one_in(4) {
+    // A chain always has as many rows as a table can hold.
+    let chains = if rows == Table::TERM_LIMIT { 4 } else { 0 };
+    let mut programs = std::iter::repeat_with(|| match random.one_in(chains) {
         true => Sample::of_text(&chain(random)),
-        false => Sample::of_table(any_program(random, Table::TERM_LIMIT)),
+        false => Sample::of_table(any_program(random, rows)),
     });
     let mut samples = vec![];
     while samples.len() < count {
         let Some(sample) = programs.next() else { break };
         let cause = cause(&mut rival, &sample.table);
-        let wanted = cause != 0 && found[cause] < count.div_ceil(CAUSES - 1);
-        if wanted && sample.table.terms.len() == Table::TERM_LIMIT {
+        let wanted = ROW_CAUSES.contains(&cause) && found[cause] < count.div_ceil(ROW_CAUSES.len());
+        if wanted && sample.table.terms.len() == rows {
             found[cause] += 1;
             samples.push(sample);
         }
@@ -80,13 +84,39 @@ pub fn shared(random: &mut Random, count: usize) -> Vec<Sample> {
     (0..count).map(|_| Sample::of_text(&deep_sharing(random))).collect()
 }
 
+/// So many programs of 256 rows that are refused only because a function would be a ciphertext.
+pub fn functions_only(random: &mut Random, count: usize) -> Vec<Sample> {
+    let mut rival = Rival::default();
+    let tables = std::iter::repeat_with(|| function_under_scheme(random, &mut rival)).flatten();
+    tables.take(count).map(Sample::of_table).collect()
+}
+
+/// A random program, accepted but for a scheme that it declares for a function.
+fn function_under_scheme(random: &mut Random, rival: &mut Rival) -> Option<Table> {
+    let rows = random.between(Table::TERM_LIMIT - 1, Table::TERM_LIMIT);
+    let program = any_program(random, rows);
+    if program.terms.len() != rows || cause(rival, &program) != 0 {
+        return None;
+    }
+    let mut programs = under_schemes(random, &program);
+    programs.find(|it| cause(rival, it) != 0)
+}
+
+/// So many accepted programs of 256 rows with a long application over 60 parameters of unknown types.
+pub fn long_applications(random: &mut Random, count: usize) -> Vec<Sample> {
+    (0..count).map(|_| Sample::of_text(&long_application(random))).collect()
+}
+
 /// A random closed program with its redeclarations made.
 fn any_program(random: &mut Random, rows: usize) -> Table {
     closed_program(random, rows).table()
 }
 
-/// Accepted, 21 by a clash, 21 by a cycle, 22, 23.
-const CAUSES: usize = 5;
+/// Accepted, 21 by a clash, 21 by a cycle, 22 at a row, 23, and 22 by the lines before the first row.
+const CAUSES: usize = 6;
+
+/// The causes of a refusal that a row gives.
+const ROW_CAUSES: [usize; 4] = [1, 2, 3, 4];
 
 /// Sorts programs by what the rival says; the measure compares all its answers with others.
 fn cause(rival: &mut Rival, table: &Table) -> usize {
@@ -94,7 +124,8 @@ fn cause(rival: &mut Rival, table: &Table) -> usize {
         Ok(()) => 0,
         Err(Refusal::Types(Failure::Clash, _)) => 1,
         Err(Refusal::Types(Failure::Cycle, _)) => 2,
-        Err(Refusal::Apart(_)) => 3,
+        Err(Refusal::Apart(1..)) => 3,
         Err(Refusal::Broken(_)) => 4,
+        Err(Refusal::Apart(0)) => 5,
     }
 }

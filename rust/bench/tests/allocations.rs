@@ -34,9 +34,11 @@ static ALLOCATOR: Counting = Counting;
 fn nothing_is_allocated_while_the_rival_is_measured() {
     let mut random = Random::seeded(41);
     let mut samples = sets::accepted(&mut random, 50, 256);
-    samples.extend(sets::refused(&mut random, 80));
+    samples.extend(sets::refused(&mut random, 80, 256));
     samples.extend(sets::shared(&mut random, 50));
     samples.extend(sets::full(&mut random, 50));
+    samples.extend(sets::functions_only(&mut random, 50));
+    samples.extend(sets::long_applications(&mut random, 50));
     let (mut rival, mut buffer) = (Rival::default(), vec![0; LONGEST_REPORT]);
     let before = ALLOCATIONS.get();
     assert!(before > samples.len(), "allocations are counted");

@@ -92,8 +92,8 @@ fn one_row_breaks_several_rules() {
     let cases = [
         ("g0,0,AH,0", "RAND,0,AH,0", 23_005),
         ("g0,0,AH,0", "RAND,0,MH,0", 22_005),
-        ("g0,0,AH,0", "RAND,0,MH,1", 21_005),
-        ("AH,0,AH,0", "MH,0,AH,1", 21_005),
+        ("g0,0,AH,0", "RAND,0,PLAIN,1", 21_005),
+        ("AH,0,AH,0", "MH,0,PLAIN,1", 21_005),
     ];
     for (expected, given, answer) in cases {
         let text = two_arrows(expected, given);
@@ -113,12 +113,16 @@ fn the_sets_are_what_they_are_called() {
         set.into_iter().map(|sample| sample.text)
     };
     assert_eq!(compare(texts(sets::accepted(&mut random, 20, 256), 256))[100], 20);
-    let refused = compare(texts(sets::refused(&mut random, 40), 256));
+    let refused = compare(texts(sets::refused(&mut random, 40, 256), 256));
     assert_eq!((refused[21], refused[22], refused[23]), (20, 10, 10));
     assert!(compare(texts(sets::shared(&mut random, 40), 256))[100] > 20);
     let full = sets::full(&mut random, 20);
     assert!(full.iter().all(|it| (it.table.types.len(), it.table.params.len()) == (64, 64)));
     assert_eq!(compare(texts(full, 255))[100], 20);
+    assert_eq!(compare(texts(sets::functions_only(&mut random, 20), 256))[22], 20);
+    assert_eq!(compare(texts(sets::long_applications(&mut random, 40), 256))[100], 40);
+    let small = compare(texts(sets::refused(&mut random, 40, 32), 32));
+    assert_eq!((small[21], small[22], small[23]), (20, 10, 10));
 }
 
 #[test]

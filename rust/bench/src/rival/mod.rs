@@ -1,8 +1,9 @@
 //! The rival: a program in ordinary safe Rust, written for speed.
 //!
 //! A reader of one pass; union by rank with path halving, an occurs check where an unknown type is
-//! bound, and one row after the other; a report that is written straight into the buffer. Its
-//! state is kept between calls, so that nothing is allocated while it is measured.
+//! bound, rings of what is PLAIN once it is an arrow, and one row after the other; a report that is
+//! written straight into the buffer. Its state is kept between calls, so that nothing is allocated
+//! while it is measured.
 
 #![forbid(unsafe_code)]
 
@@ -13,6 +14,7 @@ mod qualifiers;
 mod reader;
 mod report;
 mod solver;
+mod standing;
 mod types;
 mod words;
 

@@ -7,9 +7,15 @@ use second::Table;
 /// The number of a qualifier node: a code from 0 to 70, or an unknown qualifier of a row.
 pub type Node = u16;
 
+/// The node of PLAIN.
+pub const PLAIN: Node = 0;
+
 /// The codes, and an unknown qualifier for each row.
 const NODES: usize = CODES + Table::TERM_LIMIT;
 const CODES: usize = GREATEST_CODE as usize + 1;
+
+/// PLAIN has this rank from the start, so that it stays a root.
+const GREATEST_RANK: u8 = u8::MAX;
 
 /// Stands in the place of a constant where a class has none.
 const NONE: u8 = FIRST_VARIABLE_CODE;
@@ -58,6 +64,7 @@ impl Qualifiers {
             self.fresh();
             self.class[code].constant = NONE.min(code as u8);
         }
+        self.class[usize::from(PLAIN)].rank = GREATEST_RANK;
     }
 
     /// A new unknown qualifier.
@@ -90,6 +97,16 @@ impl Qualifiers {
         true
     }
 
+    /// Makes a qualifier PLAIN, which is below every bound; false where it is a scheme.
+    pub fn make_plain(&mut self, node: Node) -> bool {
+        let root = self.find(node);
+        if self.class[root].constant == NONE {
+            self.parent[root] = PLAIN;
+            return true;
+        }
+        root == usize::from(PLAIN)
+    }
+
     /// Keeps a qualifier at or below a scheme.
     pub fn restrict(&mut self, node: Node, scheme: u8) {
         let root = self.find(node);
@@ -107,6 +124,13 @@ impl Qualifiers {
         } else {
             class.constant
         }
+    }
+
+    /// Tells whether a node's class holds a scheme; a bound is none.
+    pub fn is_scheme(&mut self, node: Node) -> bool {
+        let root = self.find(node);
+        let constant = self.class[root].constant;
+        Node::from(constant) != PLAIN && constant != NONE
     }
 
     /// Notes whether a changed class has become impossible.

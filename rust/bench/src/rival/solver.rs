@@ -1,11 +1,10 @@
 //! The rules of the rows, and the words and shapes of all slots.
 
-use super::qualifiers::Qualifiers;
-use super::types::{Failure, Kind, Node, Qualified, Types, INT};
+use super::qualifiers::{Qualifiers, PLAIN};
+use super::types::{Failure, Kind, Qualified, Types, INT};
 use second::operation::Operation;
 use second::qualifier::{FIRST_VARIABLE_CODE, NAMED_VARIABLES};
 use second::rows::{QualifiedRow, Term, TypeRow};
-use second::schemes::{Code, PLAIN};
 use second::Table;
 
 /// The word of a named variable that stands in no line.
@@ -77,6 +76,17 @@ enum Stop {
     Broken,
 }
 
+impl Stop {
+    fn at(self, row: usize) -> Refusal {
+        let row = row as u32;
+        match self {
+            Stop::Types(failure) => Refusal::Types(failure, row),
+            Stop::Apart => Refusal::Apart(row),
+            Stop::Broken => Refusal::Broken(row),
+        }
+    }
+}
+
 impl From<Failure> for Stop {
     fn from(failure: Failure) -> Stop {
         Stop::Types(failure)
@@ -100,32 +110,42 @@ impl Default for Solver {
 impl Solver {
     /// Fills the slots, or names the least row without a typing.
     pub fn solve(&mut self, table: &Table, slots: &mut Slots) -> Result<(), Refusal> {
-        self.start(table);
+        self.start(table).map_err(|stop| stop.at(0))?;
         for (row, &term) in table.terms.iter().enumerate() {
-            match self.rule(table, term) {
-                Ok(qualified) => self.rows[row] = qualified,
-                Err(Stop::Types(failure)) => return Err(Refusal::Types(failure, row as u32)),
-                Err(Stop::Apart) => return Err(Refusal::Apart(row as u32)),
-                Err(Stop::Broken) => return Err(Refusal::Broken(row as u32)),
-            }
+            self.rows[row] = self.rule(table, term).map_err(|stop| stop.at(row))?;
         }
         self.read(table, slots);
         Ok(())
     }
 
-    /// Takes the T lines; the node of type row t is t + 1.
-    fn start(&mut self, table: &Table) {
+    /// Takes the T and P lines; the node of type row t is t + 1.
+    fn start(&mut self, table: &Table) -> Result<(), Stop> {
         self.qualifiers.start();
         self.types.start();
         for row in &table.types {
             match *row {
-                TypeRow::Int => self.types.fresh(Kind::Int),
-                TypeRow::Any => self.types.fresh(Kind::Unknown),
+                TypeRow::Int => self.types.fresh_int(),
+                TypeRow::Any => self.types.fresh_any(),
                 TypeRow::Arrow { argument, result } => {
-                    self.types.fresh_arrow(declared(argument), declared(result))
+                    let (argument, result) = (declared(argument), declared(result));
+                    self.take(argument)?;
+                    self.take(result)?;
+                    self.types.fresh_arrow(argument, result);
                 }
-            };
+            }
         }
+        table.params.iter().try_for_each(|param| self.take(declared(param.declared())))
+    }
+
+    /// Takes what a line declares: a qualifier that stands with an arrow is PLAIN.
+    fn take(&mut self, Qualified { qualifier, node }: Qualified) -> Result<(), Stop> {
+        // Before the first row each node is a root.
+        match self.types.kind(node.into()) {
+            Kind::Int => {}
+            Kind::Unknown => self.types.stand(node, qualifier),
+            Kind::Arrow => possible(self.qualifiers.make_plain(qualifier))?,
+        }
+        Ok(())
     }
 
     /// Takes the equations of a row; gives its qualified type.
@@ -134,7 +154,7 @@ impl Solver {
         Ok(match term {
             Term::Lambda { parameter: own, body } => {
                 let node = self.types.fresh_arrow(parameter(own), self.rows[usize::from(body)]);
-                constant(PLAIN, node)
+                Qualified { qualifier: PLAIN, node }
             }
             Term::Apply { function, argument } => {
                 let function = self.rows[usize::from(function)];
@@ -146,27 +166,28 @@ impl Solver {
             }
             Term::Variable { parameter: own } => parameter(own),
             Term::Number { .. } => Qualified { qualifier: self.qualifiers.fresh(), node: INT },
-            Term::Encrypted { scheme, .. } => constant(scheme, INT),
+            Term::Encrypted { scheme, .. } => Qualified { qualifier: scheme.into(), node: INT },
         })
     }
 
     /// The rule of APP: a function that is an arrow already gives its own result.
     fn apply(&mut self, function: Qualified, argument: Qualified) -> Result<Qualified, Stop> {
         let root = self.types.find(function.node);
-        match self.types.kind(root) {
-            Kind::Int => Err(Stop::Types(Failure::Clash)),
+        self.types.next_row();
+        let result = match self.types.kind(root) {
+            Kind::Int => return Err(Stop::Types(Failure::Clash)),
             Kind::Unknown => {
                 let qualifier = self.qualifiers.fresh();
-                Ok(self.types.make_arrow(root, argument, qualifier)?)
+                self.types.make_arrow(root, argument, qualifier)?
             }
             Kind::Arrow => {
                 let (expected, result) = self.types.parts(root);
-                self.types.pairs.clear();
                 self.types.equate(expected, argument)?;
-                self.unite_pairs()?;
-                Ok(result)
+                result
             }
-        }
+        };
+        self.take_noted()?;
+        Ok(result)
     }
 
     /// The rule of OP: types first, then equal qualifiers, then the bound.
@@ -178,23 +199,22 @@ impl Solver {
     ) -> Result<Qualified, Stop> {
         self.types.make_int(left.node)?;
         self.types.make_int(right.node)?;
-        if !self.qualifiers.unite(left.qualifier, right.qualifier) {
-            return Err(Stop::Apart);
-        }
+        possible(self.qualifiers.unite(left.qualifier, right.qualifier))?;
         self.qualifiers.restrict(left.qualifier, operation.highest_scheme().code());
         self.within_bounds()?;
         Ok(match operation.keeps_qualifier() {
             true => Qualified { qualifier: left.qualifier, node: INT },
-            false => constant(PLAIN, INT),
+            false => Qualified { qualifier: PLAIN, node: INT },
         })
     }
 
-    /// Makes the noted qualifiers one, all of them before the bounds are judged.
-    fn unite_pairs(&mut self) -> Result<(), Stop> {
+    /// Takes the noted qualifiers, all of them before the bounds are judged.
+    fn take_noted(&mut self) -> Result<(), Stop> {
         for &(left, right) in &self.types.pairs {
-            if !self.qualifiers.unite(left, right) {
-                return Err(Stop::Apart);
-            }
+            possible(self.qualifiers.unite(left, right))?;
+        }
+        for &qualifier in &self.types.plain {
+            possible(self.qualifiers.make_plain(qualifier))?;
         }
         self.within_bounds()
     }
@@ -236,16 +256,19 @@ impl Solver {
 
     fn slot(&mut self, qualified: Qualified) -> Slot {
         let root = self.types.find(qualified.node);
+        if self.types.kind(root) == Kind::Unknown {
+            self.types.settle(root, |qualifier| self.qualifiers.is_scheme(qualifier));
+        }
         Slot { word: self.qualifiers.word(qualified.qualifier), shape: self.types.kind(root) }
     }
+}
+
+/// Refuses what would make two constants one.
+fn possible(made: bool) -> Result<(), Stop> {
+    made.then_some(()).ok_or(Stop::Apart)
 }
 
 /// The qualified type that a line declares.
 fn declared(row: QualifiedRow) -> Qualified {
     Qualified { qualifier: row.qualifier.into(), node: row.type_row + 1 }
-}
-
-/// A type under a qualifier that the rules fix.
-fn constant(qualifier: Code, node: Node) -> Qualified {
-    Qualified { qualifier: qualifier.into(), node }
 }

@@ -1,14 +1,15 @@
 //! Types as numbered nodes that are made one by unification.
 
 use super::forest::root;
-use super::qualifiers;
+use super::qualifiers::{self, PLAIN};
+use super::standing::{Standing, PAIRS};
 use second::Table;
 
 /// The number of a type node.
 pub type Node = u16;
 
 /// INT, the type rows, and at most one new node for each row.
-const NODES: usize = 1 + Table::TYPE_LIMIT + Table::TERM_LIMIT;
+pub const NODES: usize = 1 + Table::TYPE_LIMIT + Table::TERM_LIMIT;
 
 /// The node of the type INT.
 pub const INT: Node = 0;
@@ -55,8 +56,12 @@ pub struct Types {
     /// The search that met a node last, so that marks need no clearing.
     met: [u64; NODES],
     searches: u64,
+    /// What is PLAIN as soon as an unknown type is an arrow.
+    standing: Standing,
     /// The qualifiers that the equations of the present row make one.
     pub pairs: Vec<(qualifiers::Node, qualifiers::Node)>,
+    /// The qualifiers that the equations of the present row make PLAIN.
+    pub plain: Vec<qualifiers::Node>,
 }
 
 impl Types {
@@ -70,18 +75,38 @@ impl Types {
             count: 0,
             met: [0; NODES],
             searches: 0,
+            standing: Standing::new(),
             pairs: Vec::with_capacity(2 * NODES),
+            plain: Vec::with_capacity(PAIRS),
         }
     }
 
     /// Leaves only the node of INT.
     pub fn start(&mut self) {
         self.count = 0;
+        self.standing.start();
         self.fresh(Kind::Int);
     }
 
-    /// A new node that is no arrow.
-    pub fn fresh(&mut self, kind: Kind) -> Node {
+    /// A new INT.
+    pub fn fresh_int(&mut self) {
+        self.fresh(Kind::Int);
+    }
+
+    /// A new unknown type with which nothing stands yet.
+    pub fn fresh_any(&mut self) {
+        self.fresh_unknown(PLAIN);
+    }
+
+    /// A new unknown type with a qualifier that stands with it.
+    fn fresh_unknown(&mut self, qualifier: qualifiers::Node) -> Node {
+        let node = self.fresh(Kind::Unknown);
+        self.standing.begin(node, qualifier);
+        node
+    }
+
+    /// A new node.
+    fn fresh(&mut self, kind: Kind) -> Node {
         let node = self.count;
         self.parent[node] = node as Node;
         self.rank[node] = 0;
@@ -122,7 +147,28 @@ impl Types {
         Ok(())
     }
 
-    /// Makes an unknown root an arrow from a type to a new unknown one.
+    /// Notes a qualifier that stands with an unknown type.
+    pub fn stand(&mut self, node: Node, qualifier: qualifiers::Node) {
+        self.standing.add(node, qualifier);
+    }
+
+    /// Forgets the qualifiers that the row before made one or PLAIN.
+    pub fn next_row(&mut self) {
+        self.pairs.clear();
+        self.plain.clear();
+    }
+
+    /// Makes an unknown root INT where a scheme stands with it; before all rows are taken this would make 21 of a 22.
+    #[inline(never)]
+    pub fn settle(&mut self, root: usize, is_scheme: impl FnMut(qualifiers::Node) -> bool) {
+        if self.standing.of(root).any(is_scheme) {
+            self.kind[root] = Kind::Int;
+        }
+        // The next slot of this class need not look at all of them again.
+        self.standing.empty(root);
+    }
+
+    /// Makes an unknown root an arrow from a type to a new unknown one, and notes the qualifiers that this makes PLAIN.
     pub fn make_arrow(
         &mut self,
         root: usize,
@@ -130,7 +176,8 @@ impl Types {
         qualifier: qualifiers::Node,
     ) -> Result<Qualified, Failure> {
         self.bind(root, argument.node)?;
-        let result = Qualified { qualifier, node: self.fresh(Kind::Unknown) };
+        self.note_plain(root);
+        let result = Qualified { qualifier, node: self.fresh_unknown(qualifier) };
         self.kind[root] = Kind::Arrow;
         self.arrow[root] = (argument, result);
         Ok(result)
@@ -146,13 +193,18 @@ impl Types {
             (Kind::Int, Kind::Int) => {}
             (Kind::Int, Kind::Unknown) => self.kind[right] = Kind::Int,
             (Kind::Unknown, Kind::Int) => self.kind[left] = Kind::Int,
-            (Kind::Unknown, Kind::Unknown) => self.link(left, right),
+            (Kind::Unknown, Kind::Unknown) => {
+                self.standing.join(left, right);
+                self.link(left, right);
+            }
             (Kind::Unknown, Kind::Arrow) => {
                 self.bind(left, right as Node)?;
+                self.note_plain(left);
                 self.link(right, left);
             }
             (Kind::Arrow, Kind::Unknown) => {
                 self.bind(right, left as Node)?;
+                self.note_plain(right);
                 self.link(left, right);
             }
             (Kind::Arrow, Kind::Arrow) => {
@@ -165,6 +217,11 @@ impl Types {
             (Kind::Int, Kind::Arrow) | (Kind::Arrow, Kind::Int) => return Err(Failure::Clash),
         }
         Ok(())
+    }
+
+    /// Notes that what stands with an unknown root is PLAIN, as the root becomes an arrow.
+    fn note_plain(&mut self, root: usize) {
+        self.plain.extend(self.standing.of(root));
     }
 
     /// Makes two qualified types one.
