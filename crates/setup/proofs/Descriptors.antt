@@ -111,10 +111,10 @@ stands-nine w x (Arrow q t q′ t′) few st = (omega (arith, st .0), st .1, ome
 
 -- The first type rows of a well-formed machine, in the array that holds them.
 module _ (m : Machine) (types : List TypeRow) (count : ℕ) (wf : WellFormed m) (same : m .types ≡ take count types) (size : length types ≡ 64) (few : count ≤ 64) where
-  type-count : length (m .types) ≡ count
+  pub type-count : length (m .types) ≡ count
   type-count = ap length same ∙ rw length-take (omega arith)
 
-  form-same : (x : ℕ) → x < count → typeAt m x ≡ formIn types x
+  pub form-same : (x : ℕ) → x < count → typeAt m x ≡ formIn types x
   form-same x h = ap (λ (rows : List TypeRow). formIn rows x) same ∙ ap (λ (row : TypeRow). row .form) (getD-take count types x noTypeRow h)
 
   pub forms-stand : FormsStand types count

@@ -7,7 +7,7 @@ use lib.ListN.{length, length-take}
 use Rattle.model.specs.Machine.{Machine}
 use Rattle.model.specs.Inference.{ruling, Slot, Listed, Shape, ShapeSays, GreatestTyping}
 use Rattle.model.specs.declared.Program.{Program}
-use Rattle.graph.specs.Types.{Types, kindAt, Parts, typesOf}
+use Rattle.graph.specs.Types.{Types, kindAt, typesOf}
 use Rattle.qualifiers.specs.Classes.{Qualifiers, boundAt, Greatest, qualifiersOf}
 use Rattle.occurs.specs.Kinds.{KindsSettled}
 use Rattle.scheme.specs.Schemes.{SchemeTable}
@@ -15,8 +15,7 @@ use Rattle.readings.specs.Programs.{Counted, Holds, machineOf}
 use Rattle.readings.proofs.Greatest.{solved-greatest}
 use Rattle.report.specs.declared.Codes.{Codes}
 use Rattle.slots.specs.Filled.{Filled}
-use Rattle.solver.specs.State.{After}
-use Rattle.solver.specs.Runs.{Governed, Ended, Completed, Solves}
+use Rattle.solver.specs.Runs.{Governed, Completed, Solves}
 use Rattle.solver.specs.declared.Answer.the-variants.{Placed}
 use Rattle.solver.proofs.Solving.{state-solved}
 
@@ -38,17 +37,17 @@ greatest-as m same-word same-shape a =
     }
 
 -- A run over all rows went through all of them.
-pub completed : {R kids : List ℕ} {m : Machine} {T : Types} {Q : Qualifiers} {rows all : ℕ} → rows ≡ all → Parts kids → Ended R m kids T Q rows → Completed R m T Q all
-completed {R} {kids} {m} {T} {Q} whole parts ended = (kids, parts, subst (λ (n : ℕ). Ended R m kids T Q n) whole ended)
+pub completed : {R : List ℕ} {m : Machine} {T : Types} {Q : Qualifiers} {rows all : ℕ} → rows ≡ all → Completed R m T Q rows → Completed R m T Q all
+completed {R} {m} {T} {Q} whole done = subst (λ (n : ℕ). Completed R m T Q n) whole done
 
 -- A program of whole arrays is held by its machines, with as many rows as its count says.
 pub held : (T : SchemeTable) (program : Program) → length (program .terms) ≡ 256 → Counted program → Holds (machineOf T program) program
 held T program size few =
     record { types = refl; params = refl; terms = refl; rows = length-take (program .termcount) (program .terms) ∙ omega (arith, few .terms) }
 
-pub placed : {R : List ℕ} {m : Machine} {kids u k p b : List ℕ} (b′ k′ : List ℕ) {rows : ℕ} {codes : Codes} → Governed R m → Parts kids → rows ≡ length (m .terms) →
-    Ended R m kids (typesOf u k) (qualifiersOf p b) rows → Greatest R (qualifiersOf p b) (boundAt b′) → KindsSettled (typesOf u k) k′ → Filled m (boundAt b′) (kindAt k′) codes → Solves m codes Placed
-placed {R} {m} {kids} {u} {k} {p} {b} b′ k′ gov parts whole ended g settled filled =
-    let solved =
-    state-solved m gov kids u k p b k′ (boundAt b′) parts (subst (λ (n : ℕ). After R m kids (typesOf u k) (qualifiersOf p b) n) whole (ended .after)) (ended .finite) g settled in
+pub placed : {R : List ℕ} {m : Machine} {u k p b : List ℕ} (b′ k′ : List ℕ) {rows : ℕ} {codes : Codes} → Governed R m → rows ≡ length (m .terms) →
+    Completed R m (typesOf u k) (qualifiersOf p b) rows → Greatest R (qualifiersOf p b) (boundAt b′) → KindsSettled (typesOf u k) k′ → Filled m (boundAt b′) (kindAt k′) codes → Solves m codes Placed
+placed {R} {m} {u} {k} {p} {b} b′ k′ gov whole done g settled filled =
+    let all = completed whole done in
+    let solved = state-solved m gov (all .kids) u (all .kinds) p b k k′ (all .pending) (boundAt b′) (all .parts) (all .ended) g settled in
     (greatest-as m (filled .words) (filled .shapes) (solved-greatest m (gov .well-formed) R (gov .ruled) (boundAt b′) (kindAt k′) solved), filled .matches)

@@ -7,8 +7,6 @@ use mathlib.Core.Path.{_≡_, refl, sym, ap, subst, subst₂}
 use lib.ListN.{length, take, length-take, List·getD-eq-default}
 use lib.Seq.{getD-take}
 use Rattle.layout.specs.Layout.{rowType, rowQualifier}
-use Rattle.qualifiers.specs.Classes.{qualifiersOf}
-use Rattle.graph.specs.Types.{typesOf}
 use Rattle.scheme.specs.Schemes.{SchemeTable, words}
 use Rattle.model.specs.Machine.{Machine, noParam, noTermRow, paramAt, termAt}
 use Rattle.model.specs.WellFormed.{WellFormed, TermStands}
@@ -23,18 +21,12 @@ use Rattle.model.specs.declared.Term.the-variants.{Lam, App, Op, Var, Num, Enc}
 use Rattle.model.specs.declared.TermRow.{TermRow}
 use Rattle.readings.specs.Nodes.{parameterOf, nodeNamed}
 use Rattle.scheme.proofs.Schemes.{sound-few}
-use Rattle.readings.proofs.Lines.{lines-typable}
 use Rattle.readings.specs.Programs.{Counted, machineOf}
 use Rattle.setup.specs.Descriptors.{namedQualifier, namedTyperow}
 use Rattle.setup.specs.Passes.{ParamsNoted}
 use Rattle.setup.proofs.Descriptors.{names-place}
 use Rattle.rows.specs.Rows.{RowStands}
-use Rattle.solver.specs.Runs.{Governed, Fails, RowsOf, RowReady, RunAnswers}
-use Rattle.solver.specs.declared.Run.the-variants.{Whole}
-
--- No rows at all: the lines alone have a typing.
-pub run-none : (R : List ℕ) (m : Machine) (kids u k p b : List ℕ) (rows : ℕ) → Governed R m → rows ≡ 0 → RunAnswers R m kids (typesOf u k) (qualifiersOf p b) rows Whole
-run-none R m kids u k p b rows gov e = (subst (λ (n : ℕ). Typable (whole (ruling m)) m n) (sym e) (lines-typable m (gov .well-formed) R (gov .ruled)), λ some. absurd (some e))
+use Rattle.solver.specs.Runs.{Governed, Fails, RowsOf, RowReady}
 
 -- The first rows of the program are the machine's.
 pub rows-of : (R : List ℕ) (T : SchemeTable) (program : Program) (rows : ℕ) {q ty : List ℕ} → Governed R (machineOf T program) → length (program .terms) ≡ 256 → Counted program →

@@ -3,33 +3,55 @@ use Prim.Native.Nat.{ℕ, _+_, _-_, _<_, _≤_}
 use native.Mathlib.Omega.{arith}
 use mathlib.Core.Bool.{Bool, true, false, cond}
 use mathlib.Core.List.{List}
-use mathlib.Core.Path.{_≡_, refl, sym, ap, subst, _∙_}
+use mathlib.Core.Logic.{_⊎_, inl, inr}
+use mathlib.Core.Path.{_≡_, refl, sym, ap, subst, subst₂, _∙_}
 use lib.Dec.{ltb}
 use lib.ListN.{length}
 use borrow.Author.Tests.{lt-ltb, ltb-true}
-use Rattle.layout.specs.Kinds.{arrowKind}
-use Rattle.layout.specs.Layout.{nodes, descriptors}
+use Rattle.layout.specs.Kinds.{intKind, arrowKind}
+use Rattle.layout.specs.Layout.{nodes, descriptors, rowType, rowQualifier}
 use Rattle.scheme.specs.Schemes.{words}
-use Rattle.scheme.specs.Rule.{topAt, Lattice}
+use Rattle.scheme.specs.Rule.{wordsAt, topAt, under, Lattice}
 use Rattle.model.specs.Machine.{Machine, typeAt, paramAt}
 use Rattle.model.specs.WellFormed.{WellFormed, TypeStands}
 use Rattle.model.specs.Typing.{Ty, int, arrow, TypeAgrees}
+use Rattle.model.specs.Inference.{ruling, Refusal}
 use Rattle.model.specs.declared.TypeForm.{TypeForm}
 use Rattle.model.specs.declared.TypeForm.the-variants.{Int, Any, Arrow}
-use Rattle.forest.specs.Forest.{up, Linked}
-use Rattle.graph.specs.Types.{kindAt, arrowOf, TypeClasses, typesOf}
-use Rattle.graph.specs.Unused.{Within}
-use Rattle.qualifiers.specs.Classes.{Classes, qualifiersOf}
-use Rattle.occurs.proofs.Readings.{by-less}
-use Rattle.readings.specs.Nodes.{assignment, free}
+use Rattle.forest.specs.Forest.{up, Linked, Found}
+use Rattle.forest.proofs.Roots.{found-same}
+use Rattle.graph.specs.Types.{kindAt, arrowOf, TypeClasses, Reads, typesOf}
+use Rattle.graph.specs.Unused.{Within as WithinNodes, Unused}
+use Rattle.qualifiers.specs.Classes.{Qualifiers, boundAt, Classes, Bounded, Within, Untouched, Imposed, qualifiersOf}
+use Rattle.qualifiers.proofs.Readings.{some-reading}
+use Rattle.occurs.proofs.Readings.{by-less, reads-arrow}
+use Rattle.readings.specs.Nodes.{assignment, free, Meets, Plain}
+use Rattle.readings.specs.Standing.{PlainAt, Stands, argument, result, param, row}
 use Rattle.scheme.proofs.Schemes.{sound-few}
-use Rattle.readings.proofs.Rows.{meaning-node}
+use Rattle.readings.proofs.Rows.{meaning-node, meets-fewer, plain-fewer}
+use Rattle.readings.proofs.Lines.{first-row-typable}
+use Rattle.readings.proofs.Standing.{plain-stands}
+use Rattle.readings.proofs.Strengths.{none-unordered}
+use Rattle.pending.specs.Pending.{Pending, qualifierOf, typeOf, linePairs, AllPlain, ArrowsPlain, Marked, Watched, SamePair, QualifiersBelow, Swept}
 use Rattle.rows.specs.Steps.{Ready}
 use Rattle.setup.specs.Descriptors.{Described}
 use Rattle.setup.specs.Started.{formKind, startKind, Started}
 use Rattle.solver.specs.State.{After}
 use Rattle.solver.specs.Runs.{Governed}
-use Rattle.solver.proofs.Stops.{rule-lattice}
+use Rattle.solver.proofs.Functions.{arrow-not-int, plain-by-class}
+use Rattle.solver.proofs.Stops.{rule-lattice, of-words, fails-apart}
+
+-- By which of two cases holds.
+either : {A B G : Type 0} → A ⊎ B → (A → G) → (B → G) → G
+either (inl a) f g = f a
+either (inr b) f g = g b
+
+-- The pairs of the lines T and P, but those of INT.
+pub record LinePairs (m : Machine) (k : List ℕ) (P : Pending) : Type 0 where
+  pub few : P .count ≤ linePairs
+  pub nodes : (j : ℕ) → j < P .count → (qualifierOf P j < rowQualifier 0) × (typeOf P j < rowType 0)
+  pub sound : (j : ℕ) → j < P .count → Stands m 0 (qualifierOf P j) (typeOf P j)
+  pub complete : (q x : ℕ) → Stands m 0 q x → ((j : ℕ) × (j < P .count) × (qualifierOf P j ≡ q) × (typeOf P j ≡ x)) ⊎ (kindAt k x ≡ intKind)
 
 module _ {R : List ℕ} {m : Machine} (gov : Governed R m) {kids u k p b : List ℕ} (described : Described m kids) (started : Started m (topAt R) (typesOf u k) (qualifiersOf p b)) where
   wf : WellFormed m
@@ -72,7 +94,7 @@ module _ {R : List ℕ} {m : Machine} (gov : Governed R m) {kids u k p b : List 
       cc (e, meaning-node m t v q, meaning-node m t v q′, parts .argument-qualifier, parts .argument, parts .result-qualifier, parts .result)
 
   -- An arrow of a line names nodes below the first of the term rows'.
-  arrow-within : (x : ℕ) (form : TypeForm) → x < length (m .types) → typeAt m x ≡ form → 2 ≤ formKind x form → Within 64 kids (formKind x form - 2)
+  arrow-within : (x : ℕ) (form : TypeForm) → x < length (m .types) → typeAt m x ≡ form → 2 ≤ formKind x form → WithinNodes 64 kids (formKind x form - 2)
   arrow-within x Int h is many = absurd (omega arith)
   arrow-within x Any h is many = absurd (omega arith)
   arrow-within x (Arrow q a q′ c) h is many =
@@ -113,6 +135,12 @@ module _ {R : List ℕ} {m : Machine} (gov : Governed R m) {kids u k p b : List 
       go true e = kinds-below x (typeAt m x) (omega (arith, ltb-true x (length (m .types)) e, wf .types-fit))
       go false e = omega arith
 
+  line-node : (q x : ℕ) → Stands m 0 q x → x < nodes
+  line-node q x (argument {t = d} h is) = let st = subst (TypeStands (words (m .schemes)) d) is (wf .types-stand d h) in omega (arith, st .1, wf .types-fit)
+  line-node q x (result {t = d} h is) = let st = subst (TypeStands (words (m .schemes)) d) is (wf .types-stand d h) in omega (arith, st .3, wf .types-fit)
+  line-node q x (param {p = j} h) = omega (arith, wf .params-stand j h .1, wf .types-fit)
+  line-node q x (row below h) = let z : ⊥ = omega arith in absurd z
+
   types-start : TypeClasses (typesOf u k)
   types-start =
       record {
@@ -123,45 +151,126 @@ module _ {R : List ℕ} {m : Machine} (gov : Governed R m) {kids u k p b : List 
       }
 
   -- No term row has touched its nodes.
-  pub start-ready : Ready R 0 kids (typesOf u k) (qualifiersOf p b)
-  start-ready =
+  types-unused : Unused 64 (typesOf u k) kids
+  types-unused =
       record {
-        types =
-            record {
-              own = λ x from h. started .type-roots x h;
-              unknown = λ x from h. by-less 0 (kindAt k x) (λ known. absurd (omega (arith, row-kind x h known .0, wf .types-fit))) (λ none. omega arith);
-              arrows = λ x h many. let at = row-kind x h (omega arith) in rw (at .1) (arrow-within x (typeAt m x) (at .0) refl (rw (at .1) at many));
-            };
-        qualifiers = record { own = λ x from h. started .qualifier-roots x h; unbound = λ x from h. started .bounds x h };
-        within = λ c h. rw (started .bounds c (omega (arith, lat .few))) (lat .top-greatest c h);
+        own = λ x from h. started .type-roots x h;
+        unknown = λ x from h. by-less 0 (kindAt k x) (λ known. absurd (omega (arith, row-kind x h known .0, wf .types-fit))) (λ none. omega arith);
+        arrows = λ x h many. let at = row-kind x h (omega arith) in rw (at .1) (arrow-within x (typeAt m x) (at .0) refl (rw (at .1) at many));
       }
 
-  pub start-after : After R m kids (typesOf u k) (qualifiersOf p b) 0
-  start-after =
+  qualifiers-untouched : Untouched R 73 (qualifiersOf p b)
+  qualifiers-untouched = record { own = λ x from h. started .qualifier-roots x h; unbound = λ x from h. started .bounds x h }
+
+  top-bounded : (v : ℕ → ℕ) → ((x : ℕ) → x < nodes → v x < wordsAt R) → Bounded R b v
+  top-bounded v codes x h = rw (started .bounds x h) (lat .top-greatest (v x) (codes x h))
+
+  -- What the lines T and P ask.
+  lines-read : (t : ℕ → Ty ℕ) (v : ℕ → ℕ) → Meets m 0 t v → Reads (typesOf u k) kids t v
+  lines-read t v meets =
       record {
-        types = types-start;
-        classes = classes-start;
-        into = λ t v meets. (
-          record {
-            linked = linked u t (started .type-roots);
-            ints = λ x h e.
-                let at = row-kind x h (omega arith) in
-                agrees-kind t v x (typeAt m x) (at .0) refl (meets .types-agree x (at .0)) .0 (sym (at .1) ∙ e);
-            arrows = λ x h e.
-                let at = row-kind x h (omega arith) in
-                rw (at .1) (agrees-kind t v x (typeAt m x) (at .0) refl (meets .types-agree x (at .0)) .1 (rw (at .1) at e));
-          },
-          linked p v (started .qualifier-roots),
-        );
-        outof = λ t v reads link.
-            record {
-              types-agree = λ x h.
-                  let low : x < nodes = omega (arith, wf .types-fit) in
-                  let same : kindAt k x ≡ formKind x (typeAt m x) = started .kinds x low ∙ rw (lt-ltb _ _ h) in
-                  kind-agrees t v x (typeAt m x) h refl (λ e. reads .ints x low (same ∙ e)) (λ e. rw same at (reads .arrows x low (rw same e)));
-              params-agree = λ q h. (sym (meaning-node m t v (paramAt m q .qualifier)), refl);
-              rows-meet = λ i below h. let z : ⊥ = omega arith in absurd z;
-            };
-        bounds-into = λ v coded link fits x h. rw (started .bounds x h) (lat .top-greatest (v x) (omega (arith, coded x h, gov .ruled .words-same)));
-        bounds-outof = λ v link bounded i below h. let z : ⊥ = omega arith in absurd z;
+        linked = linked u t (started .type-roots);
+        ints = λ x h e.
+            let at = row-kind x h (omega arith) in
+            agrees-kind t v x (typeAt m x) (at .0) refl (meets .types-agree x (at .0)) .0 (sym (at .1) ∙ e);
+        arrows = λ x h e.
+            let at = row-kind x h (omega arith) in
+            rw (at .1) (agrees-kind t v x (typeAt m x) (at .0) refl (meets .types-agree x (at .0)) .1 (rw (at .1) at e));
       }
+
+  lines-met : (t : ℕ → Ty ℕ) (v : ℕ → ℕ) → Reads (typesOf u k) kids t v → Meets m 0 t v
+  lines-met t v reads =
+      record {
+        types-agree = λ x h.
+            let low : x < nodes = omega (arith, wf .types-fit) in
+            let same : kindAt k x ≡ formKind x (typeAt m x) = started .kinds x low ∙ rw (lt-ltb _ _ h) in
+            kind-agrees t v x (typeAt m x) h refl (λ e. reads .ints x low (same ∙ e)) (λ e. rw same at (reads .arrows x low (rw same e)));
+        params-agree = λ q h. (sym (meaning-node m t v (paramAt m q .qualifier)), refl);
+        rows-meet = λ i below h. let z : ⊥ = omega arith in absurd z;
+      }
+
+  module _ {P : Pending} (lines : LinePairs m k P) where
+    -- In a reading whose functions are PLAIN the pairs of arrows are.
+    arrows-plain : (t : ℕ → Ty ℕ) (v : ℕ → ℕ) → Meets m 0 t v → Plain m 0 t v → ArrowsPlain (typesOf u k) P v
+    arrows-plain t v meets plain j r h class =
+        let reads = lines-read t v meets in
+        plain-stands m wf meets plain (lines .sound j h) _ _ _ _ (reads-arrow reads (omega (arith, lines .nodes j h)) (class .found) (class .arrow))
+
+    -- A scheme stands with an ARROW row: the lines alone have no typing, and row 0 is the least.
+    pub lines-refused : {Q′ : Qualifiers} → 0 < length (m .terms) → Imposed R (qualifiersOf p b) Q′ (ArrowsPlain (typesOf u k) P) (QualifiersBelow P) false → Refusal (ruling m) m 22 0
+    lines-refused some apart =
+        let none =
+        none-unordered m wf 1
+        (λ t v constant meets plain.
+        let lines-meet = meets-fewer m t v 0 1 (omega arith) meets in
+        apart .clash refl v (of-words gov v constant) (linked p v (started .qualifier-roots)) (arrows-plain t v lines-meet (plain-fewer m t v 0 1 (omega arith) plain))) in
+        let fails = fails-apart m 1 (first-row-typable m wf some) none in
+        record { in-list = some; before = λ j below. let z : ⊥ = omega arith in absurd z; none = fails .0; cause = fails .1 }
+
+    module _ {p′ b′ : List ℕ} {P′ : Pending} (swept : Swept R (typesOf u k) (qualifiersOf p b) (qualifiersOf p′ b′) P P′) where
+      -- What is still pending is unknown.
+      watched : Watched 0 (typesOf u k) (qualifiersOf p′ b′) P′
+      watched =
+          record {
+            held =
+                record {
+                  few = omega (arith, swept .fewer, lines .few);
+                  marks = swept .marks;
+                  qualifier-nodes = λ j h. let at = swept .from j h in omega (arith, at .1 .qualifier, lines .nodes (at .0) (at .1 .in-list));
+                  type-nodes = λ j h. let at = swept .from j h in omega (arith, at .1 .type, lines .nodes (at .0) (at .1 .in-list));
+                };
+            plain = λ v link j r h class.
+                let at = swept .unknown j h in
+                let same : r ≡ at .0 = found-same (class .found) (at .1 .found) in
+                let kind : kindAt k r ≡ 0 = ap (kindAt k) same ∙ at .1 .unknown in
+                absurd (omega (arith, class .arrow));
+            marked = λ j r h class.
+                let at = swept .unknown j h in
+                subst (Marked P′ j) (found-same (at .1 .found) (class .found)) (at .2);
+          }
+
+      -- Every bound is the greatest qualifier, also where classes were joined.
+      within : Within R b′
+      within c h =
+          let qs = some-reading (swept .imposed .classes) in
+          let bounded = swept .imposed .bounds-into refl (qs .0) (qs .1) (top-bounded (qs .0) (qs .3)) in
+          subst (λ (x : ℕ). under R x (boundAt b′ c) ≡ true) (qs .2 c h) (bounded c (omega (arith, lat .few)))
+
+      pub start-ready : Ready R 0 kids (typesOf u k) (qualifiersOf p′ b′) P′
+      start-ready =
+          record {
+            types = types-unused;
+            qualifiers = swept .imposed .stays 73 (omega arith, λ j h. omega (arith, lines .nodes j h)) qualifiers-untouched;
+            within = within;
+            watched = watched;
+          }
+
+      -- The pairs that are not pending any more are PLAIN in every reading.
+      gathered-plain : (t : ℕ → Ty ℕ) (v : ℕ → ℕ) → Reads (typesOf u k) kids t v → Linked p′ v → AllPlain P′ t v → AllPlain P t v
+      gathered-plain t v reads link plain j h = go (swept .kept j h)
+        where
+          go : ((i : ℕ) × (i < P′ .count) × SamePair P′ i P j) ⊎ ((r : ℕ) × Found u (typeOf P j) r × ¬ (kindAt k r ≡ 0)) → PlainAt t v (qualifierOf P j) (typeOf P j)
+          go (inl (i, below, same)) = λ a s r w is. ap v (sym (same .qualifier)) ∙ plain i below a s r w (ap t (same .type) ∙ is)
+          go (inr (r, found, known)) =
+              plain-by-class types-start reads (qualifierOf P j) (typeOf P j) (omega (arith, lines .nodes j h))
+              (λ y class. absurd (known (ap (kindAt k) (found-same found (class .found)) ∙ class .unknown)))
+              (λ y class. swept .imposed .outof refl v link .1 j y h class)
+
+      pub start-after : After R m kids (typesOf u k) (qualifiersOf p′ b′) P′ 0
+      start-after =
+          record {
+            types = types-start;
+            classes = swept .imposed .classes;
+            written = described .written;
+            reads = lines-read;
+            links = λ t v meets plain. swept .imposed .into refl v (linked p v (started .qualifier-roots)) (arrows-plain t v meets plain);
+            outof = λ t v reads link. lines-met t v reads;
+            bounds-into = λ v coded link fits. swept .imposed .bounds-into refl v link (top-bounded v (λ x h. omega (arith, coded x h, gov .ruled .words-same)));
+            bounds-outof = λ v link bounded i below h. let z : ⊥ = omega arith in absurd z;
+            sound = λ j h. let at = swept .from j h in subst₂ (Stands m 0) (sym (at .1 .qualifier)) (sym (at .1 .type)) (lines .sound (at .0) (at .1 .in-list));
+            covers = λ t v reads link plain q x stands.
+                let all = gathered-plain t v reads link plain in
+                either (lines .complete q x stands)
+                (λ listed. λ a s r w is. ap v (sym (listed .2)) ∙ all (listed .0) (listed .1) a s r w (ap t (listed .3) ∙ is))
+                (λ one. λ a s r w is. absurd (arrow-not-int (sym is ∙ reads .ints x (line-node q x stands) one)));
+          }
