@@ -17,7 +17,6 @@ ghost use Rattle.layout.specs.Layout.{rowType, rowQualifier, nodes};
 ghost use Rattle.model.specs.declared.Term.the-variants.{App, Op};
 ghost use Rattle.forest.specs.Forest.{Forest};
 ghost use lib.ListN.{length};
-ghost use mathlib.Core.Bool.{false};
 ghost use mathlib.Core.Path.{_≡_};
 ghost use Rattle.graph.specs.Types.{Parts, TypeClasses, PairRoom, Same, NodeArrow, typesOf, argument};
 ghost use Rattle.graph.specs.Steady.{Calm, Steady, RootOfEither};
@@ -113,18 +112,20 @@ fn makes_arrows(
     x: usize,
     y: usize,
 ) -> bool
-    requires { ⌜ TypeClasses (typesOf (now typeparent) (now kind)) ⌝ ∗ ⌜ (x < nodes) × (y < nodes) ⌝ }
+    requires { ⌜ TypeClasses (typesOf (now typeparent) (now kind)) ⌝ ∗ ⌜ (x < nodes) × (y < nodes) × (length (now crowded) ≡ nodes) ⌝ }
     ensures { λ r. ⌜ Foreseen (typesOf (now (typeparent .entry)) (now (kind .entry))) (now (crowded .entry)) (now (crowded .exit)) x y r ⌝ }
 {
     let a = forest::find(typeparent, x);
     let b = forest::find(typeparent, y);
-    if a != b {
-        if FIRST_ARROW <= kind[a] {
-            return true;
-        }
-        if FIRST_ARROW <= kind[b] {
-            return true;
-        }
+    if a == b {
+        crowded[a] = 1;
+        return false;
+    }
+    if FIRST_ARROW <= kind[a] {
+        return true;
+    }
+    if FIRST_ARROW <= kind[b] {
+        return true;
     }
     crowded[a] = 1;
     crowded[b] = 1;
@@ -146,7 +147,7 @@ fn unify_kept(
     requires { ⌜ TypeClasses (typesOf (now typeparent) (now kind)) ⌝ ∗ ⌜ Parts (now kids) ⌝ ∗ ⌜ PairRoom (now typeparent) (notesOf (now left) (now right)) n ⌝ ∗ ⌜ (x < nodes) × (y < nodes) ⌝ }
     ensures { λ r. ⌜ Enforces (now (kids .entry)) (typesOf (now (typeparent .entry)) (now (kind .entry))) (notesOf (now (left .entry)) (now (right .entry))) (typesOf (now (typeparent .exit)) (now (kind .exit))) (notesOf (now (left .exit)) (now (right .exit))) n (Same x y) r ⌝
         ∗ ⌜ ((m : ℕ) → x < m → y < m → Confined m (now (kids .entry)) (typesOf (now (typeparent .entry)) (now (kind .entry))) (notesOf (now (left .entry)) (now (right .entry))) (typesOf (now (typeparent .exit)) (now (kind .exit))) (notesOf (now (left .exit)) (now (right .exit))) n r) ⌝
-        ∗ ⌜ (closes ≡ false → Quiet (typesOf (now (typeparent .entry)) (now (kind .entry))) (typesOf (now (typeparent .exit)) (now (kind .exit))) x y) ⌝ }
+        ∗ ⌜ Quiet (typesOf (now (typeparent .entry)) (now (kind .entry))) (typesOf (now (typeparent .exit)) (now (kind .exit))) x y ⌝ }
 {
     if !closes {
         return unification::unify(typeparent, kind, kids, left, right, n, x, y);
@@ -209,7 +210,7 @@ fn call(
         ∗ ⌜ Unused (rowType i) (typesOf (now typeparent) (now kind)) (now kids) ⌝ }
     ensures { λ r. ⌜ Enforces (now (kids .entry)) (typesOf (now (typeparent .entry)) (now (kind .entry))) (notesOf (now (left .entry)) (now (right .entry))) (typesOf (now (typeparent .exit)) (now (kind .exit))) (notesOf (now (left .exit)) (now (right .exit))) 0 (Calls (now (kids .entry)) d i a) r ⌝
         ∗ ⌜ Confined (rowType (i + 1)) (now (kids .entry)) (typesOf (now (typeparent .entry)) (now (kind .entry))) (notesOf (now (left .entry)) (now (right .entry))) (typesOf (now (typeparent .exit)) (now (kind .exit))) (notesOf (now (left .exit)) (now (right .exit))) 0 r ⌝
-        ∗ ⌜ (closes ≡ false → Calm (typesOf (now (typeparent .entry)) (now (kind .entry))) (rowType a) (argument (now (kids .entry)) d) →
+        ∗ ⌜ (Calm (typesOf (now (typeparent .entry)) (now (kind .entry))) (rowType a) (argument (now (kids .entry)) d) →
         Steady (rowType i) (typesOf (now (typeparent .entry)) (now (kind .entry))) (typesOf (now (typeparent .exit)) (now (kind .exit))) (RootOfEither (typesOf (now (typeparent .entry)) (now (kind .entry))) (rowType a) (argument (now (kids .entry)) d))) ⌝ }
 {
     forest::put_under_root(typeparent, layout::row_type(i), graph::part(kids, d, 3));
