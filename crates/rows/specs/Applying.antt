@@ -20,6 +20,11 @@ pub record Foreseen (T : Types) (c c′ : List ℕ) (x y : ℕ) (r : Bool) : Typ
   pub stays : (s : ℕ) → 0 < getD c s 0 → 0 < getD c′ s 0
   pub size : length c ≡ length c′
 
+-- The pairs were looked through, or are as they were.
+pub data LookedIf (R : List ℕ) (T : Types) (Q Q′ : Qualifiers) (P : Pending) (left right crowded : List ℕ) (closes : Bool) : Sweep → Type 0 where
+  swept : {s : Sweep} → Sweeps R T Q Q′ P left right crowded s → LookedIf R T Q Q′ P left right crowded closes s
+  still : {n : ℕ} → closes ≡ false → Q′ ≡ Q → P ≡ pendingOf left right crowded n → LookedIf R T Q Q′ P left right crowded closes (Kept n)
+
 -- The root of a marked class was looked through; one that is not marked has its own pair made PLAIN, and the pairs stay as they are.
 pub data MadePlain (R : List ℕ) (T : Types) (Q Q′ : Qualifiers) (P : Pending) (left right crowded : List ℕ) (r : ℕ) : Sweep → Type 0 where
   looked : {s : Sweep} → Sweeps R T Q Q′ P left right crowded s → MadePlain R T Q Q′ P left right crowded r s

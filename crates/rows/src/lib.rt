@@ -29,7 +29,7 @@ ghost use Rattle.pending.specs.Pending.{pendingOf};
 ghost use Rattle.setup.specs.Descriptors.{HasParts, Describes};
 ghost use Rattle.rows.specs.Rows.{RowStands};
 ghost use Rattle.rows.specs.Steps.{Ready, Stepped, leftOf, OwnPlain, PlainAtRow, Calls, Known, UnknownRoot, Bound};
-ghost use Rattle.rows.specs.Applying.{Foreseen, MadePlain};
+ghost use Rattle.rows.specs.Applying.{Foreseen, LookedIf, MadePlain};
 
 // How a row's step went: fine, with so many pairs pending; or its types clash, and are as they were; or its types clash; or two constants meet; or one is above its bound.
 pub enum Verdict {
@@ -241,6 +241,44 @@ fn call(
     )
 }
 
+// Looks through the pending pairs where an arrow may have been made.
+fn look_if(
+    rule: &[u8; RULE],
+    qualifierparent: &mut [u16; NODES],
+    bound: &mut [u8; NODES],
+    typeparent: &[u16; NODES],
+    kind: &[u16; NODES],
+    pairqualifier: &mut [u16; PAIR_PLACES],
+    pairtype: &mut [u16; PAIR_PLACES],
+    crowded: &mut [u8; NODES],
+    n: usize,
+    closes: bool,
+) -> Sweep
+    requires { ⌜ Classes (now rule) (qualifiersOf (now qualifierparent) (now bound)) ⌝
+        ∗ ⌜ TypeClasses (typesOf (now typeparent) (now kind)) ⌝
+        ∗ ⌜ Pairs (notesOf (now pairqualifier) (now pairtype)) n ⌝
+        ∗ ⌜ length (now crowded) ≡ nodes ⌝ }
+    ensures { λ r. ⌜ LookedIf (now (rule .entry)) (typesOf (now (typeparent .entry)) (now (kind .entry)))
+        (qualifiersOf (now (qualifierparent .entry)) (now (bound .entry))) (qualifiersOf (now (qualifierparent .exit)) (now (bound .exit)))
+        (pendingOf (now (pairqualifier .entry)) (now (pairtype .entry)) (now (crowded .entry)) n)
+        (now (pairqualifier .exit)) (now (pairtype .exit)) (now (crowded .exit)) closes r ⌝ }
+{
+    if !closes {
+        return Sweep::Kept(n);
+    }
+    pending::look_through(
+        rule,
+        qualifierparent,
+        bound,
+        typeparent,
+        kind,
+        pairqualifier,
+        pairtype,
+        crowded,
+        n,
+    )
+}
+
 // An APP row whose function is the arrow of descriptor d.
 fn call_row(
     rule: &[u8; RULE],
@@ -281,31 +319,26 @@ fn call_row(
             if !qualifiers::unite_all(rule, qualifierparent, bound, left, right, m) {
                 return Verdict::Apart;
             }
-            let mut pending = n;
-            if closes {
-                match pending::look_through(
-                    rule,
-                    qualifierparent,
-                    bound,
-                    typeparent,
-                    kind,
-                    pairqualifier,
-                    pairtype,
-                    crowded,
-                    n,
-                ) {
-                    Sweep::Kept(kept) => {
-                        pending = kept;
-                    }
-                    Sweep::Apart => {
-                        return Verdict::Apart;
+            match look_if(
+                rule,
+                qualifierparent,
+                bound,
+                typeparent,
+                kind,
+                pairqualifier,
+                pairtype,
+                crowded,
+                n,
+                closes,
+            ) {
+                Sweep::Kept(kept) => {
+                    if qualifiers::within_bounds(rule, bound) {
+                        Verdict::Fine(kept)
+                    } else {
+                        Verdict::Broken
                     }
                 }
-            }
-            if qualifiers::within_bounds(rule, bound) {
-                Verdict::Fine(pending)
-            } else {
-                Verdict::Broken
+                Sweep::Apart => Verdict::Apart,
             }
         }
         Joining::Clash => Verdict::Shapes,
@@ -348,11 +381,12 @@ fn function_plain(
             n,
         );
     }
-    if layout::row_type(0) <= function {
-        let own = layout::row_qualifier(function - layout::row_type(0));
-        if qualifiers::unite(rule, qualifierparent, bound, own, 0) == qualifiers::APART {
-            return Sweep::Apart;
-        }
+    if function < layout::row_type(0) {
+        return Sweep::Kept(n);
+    }
+    let own = layout::row_qualifier(function - layout::row_type(0));
+    if qualifiers::unite(rule, qualifierparent, bound, own, 0) == qualifiers::APART {
+        return Sweep::Apart;
     }
     Sweep::Kept(n)
 }
@@ -398,13 +432,20 @@ fn bind_row(
         n,
         function,
     ) {
-        Sweep::Kept(kept) => Verdict::Fine(unification::note(
-            pairqualifier,
-            pairtype,
-            kept,
-            layout::row_qualifier(i),
-            layout::row_type(i),
-        )),
+        Sweep::Kept(kept) => {
+            let pending = unification::note(
+                pairqualifier,
+                pairtype,
+                kept,
+                layout::row_qualifier(i),
+                layout::row_type(i),
+            );
+            if qualifiers::within_bounds(rule, bound) {
+                Verdict::Fine(pending)
+            } else {
+                Verdict::Broken
+            }
+        }
         Sweep::Apart => Verdict::Apart,
     }
 }
