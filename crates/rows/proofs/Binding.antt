@@ -15,7 +15,7 @@ use Rattle.layout.specs.Kinds.{firstArrow, arrowKind}
 use Rattle.layout.specs.Layout.{nodes, pairPlaces, rowType, rowQualifier, qualifiersFrom}
 use Rattle.layout.specs.Readings.{Constant}
 use Rattle.model.specs.Typing.{Ty}
-use Rattle.forest.specs.Forest.{Linked, Found}
+use Rattle.forest.specs.Forest.{up, Linked, Found}
 use Rattle.forest.specs.Pairs.{Pairs, notesOf}
 use Rattle.forest.proofs.Links.{by-eq}
 use Rattle.graph.specs.Types.{Types, typesOf, kindAt, TypeClasses, Reads, Equation, NodeArrow}
@@ -181,19 +181,24 @@ module _ (R kids u k p b pairleft pairright crowded : List ℕ) (n i a r : ℕ) 
         after = extended-cleared taken (cleared made)
 
         module _ {left′ right′ : List ℕ} {n′ : ℕ} (noted : Noted (notesOf left right) (notesOf left′ right′) n₁ (rowQualifier i) (rowType i) n′) {within : Bool} (tested : Tested R b′ within) where
+          -- The row's own node is a root without a kind, as no row has touched it.
+          own : up u (rowType i) ≡ rowType i
+          own = ready .types .own (rowType i) (omega arith) (omega arith)
+
+          unknown : kindAt k′ (rowType i) ≡ 0
+          unknown = opened bound .others (rowType i) (λ e. omega (arith, stands .2)) ∙ ready .types .unknown (rowType i) (omega arith) (omega arith)
+
           pub bind-fine : within ≡ true → Answers p′ b′ left′ right′ crowded′ (Fine n′)
-          bind-fine fits =
-              let own = ready .types .own (rowType i) (omega arith) (omega arith) in
-              let unknown = opened bound .others (rowType i) (λ e. omega (arith, stands .2)) ∙ ready .types .unknown (rowType i) (omega arith) (omega arith) in (
-                after,
-                record {
-                  types = opened bound .unused;
-                  qualifiers = untouched-more (omega arith) (cleared made .untouched (ready .qualifiers));
-                  within = tested .within fits;
-                  watched = watched-noted (cleared made) noted own unknown;
-                },
-                carried-noted (cleared made) noted own unknown,
-              )
+          bind-fine fits = (
+            after,
+            record {
+              types = opened bound .unused;
+              qualifiers = untouched-more (omega arith) (cleared made .untouched (ready .qualifiers));
+              within = tested .within fits;
+              watched = watched-noted (cleared made) noted own unknown;
+            },
+            carried-noted (cleared made) noted own unknown,
+          )
 
           pub bind-broken : within ≡ false → Answers p′ b′ left′ right′ crowded′ Broken
-          bind-broken over = (after, opened bound .unused, tested .broken over)
+          bind-broken over = (after, opened bound .unused, tested .broken over, (n′, watched-noted (cleared made) noted own unknown, carried-noted (cleared made) noted own unknown))

@@ -21,7 +21,7 @@ use Rattle.unification.specs.declared.Joining.the-variants as joining
 use Rattle.unification.proofs.Unused.{unused-more}
 use Rattle.pending.specs.Pending.{Pending, pendingOf, Held}
 use Rattle.pending.specs.declared.Sweep.the-variants as sweep
-use Rattle.rows.specs.Steps.{PlainBefore, Extended, Ready, PartsPlain, PlainAtRow, leftOf, Stepped, Calls}
+use Rattle.rows.specs.Steps.{Carried, PlainBefore, Extended, Ready, PartsPlain, PlainAtRow, leftOf, Stepped, Calls}
 use Rattle.rows.specs.Applying.{Foreseen, LookedIf, swept, still}
 use Rattle.rows.specs.declared.Verdict.{Verdict}
 use Rattle.rows.specs.declared.Verdict.the-variants.{Fine, Shapes, Lost, Apart, Broken}
@@ -116,6 +116,9 @@ module _ (R kids u k p b pairleft pairright crowded : List ℕ) (n i a d : ℕ) 
               after : Extended R kids (typesOf u k) quals₀ (typesOf u′ k′) (qualifiersOf p₂ b₂) Plain (Calls kids d i a) (λ v. Unit {0})
               after = extended-cleared called (cleared looked)
 
+              carried : Carried i kids (typesOf u k) (typesOf u′ k′) (qualifiersOf p₂ b₂) pairs₀ (pendingOf left″ right″ crowded₂ n′) (PlainAtRow i)
+              carried = carried-cleared (cleared looked) (λ t v reads linked parts plain. result-plain kids u k d i a t v (stands .2) (after .outof t v reads linked .2) parts)
+
               pub call-fine : within ≡ true → Answers p₂ b₂ left″ right″ crowded₂ (Fine n′)
               call-fine fits =
                   let left-over = cleared looked in (
@@ -126,11 +129,11 @@ module _ (R kids u k p b pairleft pairright crowded : List ℕ) (n i a d : ℕ) 
                       within = tested .within fits;
                       watched = left-over .watched;
                     },
-                    carried-cleared left-over (λ t v reads linked parts plain. result-plain kids u k d i a t v (stands .2) (after .outof t v reads linked .2) parts),
+                    carried,
                   )
 
               pub call-broken : within ≡ false → Answers p₂ b₂ left″ right″ crowded₂ Broken
-              call-broken over = (after, unused-after, tested .broken over)
+              call-broken over = (after, unused-after, tested .broken over, (n′, cleared looked .watched, carried))
 
             pub call-parted : LookedIf R (typesOf u′ k′) (qualifiersOf p₁ b₁) (qualifiersOf p₂ b₂) pairs₁ left″ right″ crowded₂ closes sweep.Apart → Answers p₂ b₂ left″ right″ crowded₂ Apart
             call-parted (swept look) =
