@@ -4,16 +4,13 @@ use native.Mathlib.Omega.{arith}
 use borrow.Author.Tests.{lt-ltb}
 use mathlib.Core.Bool.{Bool, true, false}
 use mathlib.Core.List.{List}
-use mathlib.Core.Logic.{_⊎_, inl, inr, ⊎-elim}
+use mathlib.Core.Logic.{⊎-elim}
 use mathlib.Core.Path.{_≡_, refl, sym, ap, subst, _∙_}
 use lib.Dec.{ltb}
 use lib.ListN.{length, getD, set}
 use lib.Seq.{set-set, set-getD, getD-set-same, getD-set-other}
-use Rattle.scheme.specs.Rule.{wordsAt}
-use Rattle.layout.specs.Kinds as Kinds
 use Rattle.layout.specs.Kinds.{firstArrow, arrowKind}
 use Rattle.layout.specs.Layout.{nodes, pairPlaces, rowType, rowQualifier, qualifiersFrom}
-use Rattle.layout.specs.Readings.{Constant}
 use Rattle.model.specs.Typing.{Ty}
 use Rattle.forest.specs.Forest.{up, Linked, Found}
 use Rattle.forest.specs.Pairs.{Pairs, notesOf}
@@ -28,7 +25,7 @@ use Rattle.unification.specs.Noted.{Noted}
 use Rattle.unification.proofs.Answering.{made-arrow, arrow-local}
 use Rattle.unification.proofs.Merging.{AtRoot, at-own}
 use Rattle.unification.proofs.Unused.{unused-more}
-use Rattle.pending.specs.Pending.{Pending, pendingOf, typeOf, Watched}
+use Rattle.pending.specs.Pending.{Pending, pendingOf, Watched}
 use Rattle.pending.specs.declared.Sweep.the-variants as sweep
 use Rattle.setup.specs.Descriptors.{HasParts}
 use Rattle.rows.specs.Applying.{MadePlain, looked, alone, apart, bare}
@@ -90,6 +87,7 @@ module _ (R kids u k p b pairleft pairright crowded : List ℕ) (n i a r : ℕ) 
   abbrev Plain : Equation
   Plain = PlainBefore pairs₀ i
 
+  -- The row answers so, and leaves these qualifiers and pending pairs.
   abbrev Answers : (p′ b′ left right crowded′ : List ℕ) → Verdict → Type 0
   Answers p′ b′ left right crowded′ =
       Stepped R i kids (typesOf u k) quals₀ pairs₀ (leftOf u k′ p′ b′ left right crowded′) (NodeArrow kids r (rowType i)) (λ v. Unit {0}) (PlainAtRow i)

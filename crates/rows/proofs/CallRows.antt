@@ -1,5 +1,5 @@
 -- An APP row whose function is an arrow, exit by exit.
-use Prim.Native.Nat.{ℕ, _+_, _-_, _<_, _≤_}
+use Prim.Native.Nat.{ℕ, _+_, _-_, _<_}
 use native.Mathlib.Omega.{arith}
 use mathlib.Core.Bool.{Bool, true, false}
 use mathlib.Core.List.{List}
@@ -24,7 +24,7 @@ use Rattle.pending.specs.declared.Sweep.the-variants as sweep
 use Rattle.rows.specs.Steps.{Carried, PlainBefore, Extended, Ready, PartsPlain, PlainAtRow, leftOf, Stepped, Calls}
 use Rattle.rows.specs.Applying.{Foreseen, LookedIf, swept, still}
 use Rattle.rows.specs.declared.Verdict.{Verdict}
-use Rattle.rows.specs.declared.Verdict.the-variants.{Fine, Shapes, Lost, Apart, Broken}
+use Rattle.rows.specs.declared.Verdict.the-variants.{Fine, Shapes, Apart, Broken}
 use Rattle.rows.proofs.Steps.{taken-noted, equated, extended, parted}
 use Rattle.rows.proofs.Watching.{watched-next}
 use Rattle.rows.proofs.Clearing.{held-pairs, Cleared, cleared-none, cleared-swept, arrows-plain, extended-cleared, parted-cleared, carried-cleared}
@@ -95,7 +95,7 @@ module _ (R kids u k p b pairleft pairright crowded : List ℕ) (n i a d : ℕ) 
                 type-nodes = λ j h. omega (arith, ready .watched .held .type-nodes j h);
               }
 
-          -- What the look through the pairs finds, and their pairs, which it may look through.
+          -- The pairs can be looked through.
           pub look-ready : TypeClasses (typesOf u′ k′) × (Pairs (notesOf pairleft pairright) n × (length crowded₁ ≡ nodes))
           look-ready = (noted .classes, (held-pairs (omega arith) held, held .marks))
 

@@ -1,10 +1,9 @@
 -- A call of the arrow of a descriptor, exit by exit.
-use Prim.Native.Nat.{ℕ, _+_, _<_, _≤_}
+use Prim.Native.Nat.{ℕ, _+_, _<_}
 use native.Mathlib.Omega.{arith}
 use mathlib.Core.List.{List}
-use mathlib.Core.Logic.{_⊎_, inl, inr, ⊎-elim}
-use mathlib.Core.Path.{_≡_, sym, subst}
-use lib.ListN.{set}
+use mathlib.Core.Logic.{inl, inr, ⊎-elim}
+use mathlib.Core.Path.{subst}
 use Rattle.layout.specs.Layout.{nodes, rowType, rowQualifier}
 use Rattle.model.specs.Typing.{Ty}
 use Rattle.forest.specs.Forest.{Forest, Found, Hung}

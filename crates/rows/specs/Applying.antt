@@ -5,15 +5,14 @@ use mathlib.Core.List.{List}
 use mathlib.Core.Path.{_≡_}
 use lib.ListN.{length, getD}
 use Rattle.layout.specs.Layout.{rowType, qualifiersFrom}
-use Rattle.forest.specs.Forest.{Linked}
-use Rattle.graph.specs.Types.{Types, Reads}
+use Rattle.graph.specs.Types.{Types}
 use Rattle.graph.specs.Steady.{Calm, RootOfEither}
 use Rattle.qualifiers.specs.Classes.{Qualifiers, Imposed}
-use Rattle.pending.specs.Pending.{Pending, pendingOf, ArrowsPlain, QualifiersBelow, Swept, Sweeps}
+use Rattle.pending.specs.Pending.{Pending, pendingOf, Sweeps}
 use Rattle.pending.specs.declared.Sweep.{Sweep}
 use Rattle.pending.specs.declared.Sweep.the-variants.{Kept, Apart}
 
--- Where two nodes are made one, no class becomes an arrow, and the roots of both are marked; or one may, and no mark has changed.
+-- Where two nodes are made one, no class becomes an arrow, and the roots of both are marked; or one may. No mark is lost.
 pub record Foreseen (T : Types) (c c′ : List ℕ) (x y : ℕ) (r : Bool) : Type 0 where
   pub calm : r ≡ false → Calm T x y
   pub marked : r ≡ false → (s : ℕ) → RootOfEither T x y s → 0 < getD c′ s 0

