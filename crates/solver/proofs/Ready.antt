@@ -3,8 +3,8 @@ use Prim.Native.Nat.{ℕ, _<_, _≤_}
 use native.Mathlib.Omega.{arith}
 use native.Mathlib.Decide.{decLt}
 use mathlib.Core.List.{List}
-use mathlib.Core.Path.{_≡_, refl, sym, ap, subst, subst₂}
-use lib.ListN.{length, take, length-take, List·getD-eq-default}
+use mathlib.Core.Path.{_≡_, refl, sym, ap, subst, subst₂, _∙_}
+use lib.ListN.{length, getD, take, length-take, List·getD-eq-default}
 use lib.Seq.{getD-take}
 use Rattle.layout.specs.Layout.{rowType, rowQualifier}
 use Rattle.scheme.specs.Schemes.{SchemeTable, words}
@@ -78,6 +78,16 @@ module _ {m : Machine} (wf : WellFormed m) where
       subst (λ (term : Term). RowStands i term (nodeNamed q term) (nodeNamed ty term)) (of .same-term i below .1)
       (subst₂ (RowStands i (termAt m i)) (sym (of .noted .qualifier (parameterOf (termAt m i)) place)) (sym (of .noted .typerow (parameterOf (termAt m i)) place)) row)
 
+-- The places of the parameters that there are hold nodes.
+pub param-places : {m : Machine} → WellFormed m → {q ty : List ℕ} → ParamsNoted (m .params) q ty → (count : ℕ) → count ≤ 64 → (p : ℕ) → p < count → (getD q p 0 < rowQualifier 0) × (getD ty p 0 < rowType 0)
+param-places wf noted count few p h =
+    let nodes = param-nodes wf p in
+    (omega (arith, noted .qualifier p (omega arith), nodes .0), omega (arith, noted .typerow p (omega arith), nodes .1))
+
+-- As many parameters are in the machine's list.
+pub param-count : (program : Program) → length (program .params) ≡ 64 → Counted program → length (take (program .paramcount) (program .params)) ≡ program .paramcount
+param-count program size few = length-take (program .paramcount) (program .params) ∙ omega (arith, few .params)
+
 -- A row below the count is in the machine's list.
 pub in-terms : (program : Program) (row : ℕ) → length (program .terms) ≡ 256 → Counted program → row < program .termcount → row < length (take (program .termcount) (program .terms))
 in-terms program row size few below = rw (length-take (program .termcount) (program .terms)) (omega (arith, few .terms))
@@ -88,6 +98,16 @@ refusal-of m number row in-list fails some =
     record {
       in-list = in-list;
       before = λ j below. typable-fewer (omega arith) some;
+      none = fails .0;
+      cause = fails .1;
+    }
+
+-- Before row 0 there is none.
+pub refusal-first : (m : Machine) (number : ℕ) → 0 < length (m .terms) → Fails m number 0 → Refusal (ruling m) m number 0
+refusal-first m number in-list fails =
+    record {
+      in-list = in-list;
+      before = λ j below. let z : ⊥ = omega arith in absurd z;
       none = fails .0;
       cause = fails .1;
     }

@@ -39,6 +39,7 @@ use Rattle.setup.specs.Started.{formKind, startKind, Started}
 use Rattle.solver.specs.State.{After}
 use Rattle.solver.specs.Runs.{Governed}
 use Rattle.solver.proofs.Functions.{arrow-not-int, plain-by-class}
+use Rattle.solver.proofs.Ready.{refusal-first}
 use Rattle.solver.proofs.Stops.{rule-lattice, of-words, fails-apart}
 
 -- By which of two cases holds.
@@ -112,7 +113,7 @@ module _ {R : List ℕ} {m : Machine} (gov : Governed R m) {kids u k p b : List 
         result-qualifier = omega (arith, parts .result-qualifier, stands .2);
       }
 
-  classes-start : Classes R (qualifiersOf p b)
+  pub classes-start : Classes R (qualifiersOf p b)
   classes-start =
       record {
         lattice = lat;
@@ -141,7 +142,7 @@ module _ {R : List ℕ} {m : Machine} (gov : Governed R m) {kids u k p b : List 
   line-node q x (param {p = j} h) = omega (arith, wf .params-stand j h .1, wf .types-fit)
   line-node q x (row below h) = let z : ⊥ = omega arith in absurd z
 
-  types-start : TypeClasses (typesOf u k)
+  pub types-start : TypeClasses (typesOf u k)
   types-start =
       record {
         forest = record { size = started .sizes .0; low = λ x h. omega (arith, started .type-roots x h) };
@@ -204,8 +205,7 @@ module _ {R : List ℕ} {m : Machine} (gov : Governed R m) {kids u k p b : List 
         (λ t v constant meets plain.
         let lines-meet = meets-fewer m t v 0 1 (omega arith) meets in
         apart .clash refl v (of-words gov v constant) (linked p v (started .qualifier-roots)) (arrows-plain t v lines-meet (plain-fewer m t v 0 1 (omega arith) plain))) in
-        let fails = fails-apart m 1 (first-row-typable m wf some) none in
-        record { in-list = some; before = λ j below. let z : ⊥ = omega arith in absurd z; none = fails .0; cause = fails .1 }
+        refusal-first m 22 some (fails-apart m 1 (first-row-typable m wf some) none)
 
     module _ {p′ b′ : List ℕ} {P′ : Pending} (swept : Swept R (typesOf u k) (qualifiersOf p b) (qualifiersOf p′ b′) P P′) where
       -- What is still pending is unknown.

@@ -14,7 +14,7 @@ row-qualifier-requires c κs = omega (arith, c .before .pre .1 .0)
 settle-requires : tie.Need-settle-requires
 settle-requires c κs =
     let pre = c .before .before .pre in
-    let end = pre .1 .1 (pre .0 .0) (pre .0 .1) .2 in
+    let end = pre .1 .1 (pre .0 .0) (pre .0 .1) .ended in
     (end .after .classes, (end .ready .within, (omega (arith, c .row-qualifier .ensures, pre .1 .0), rw (c .row-qualifier .ensures) (end .ready .qualifiers))))
 
 row-type-requires : tie.Need-row-type-requires
@@ -23,8 +23,8 @@ row-type-requires c κs = omega (arith, c .before .before .before .before .pre .
 settle-requires-2 : tie.Need-settle-requires-2
 settle-requires-2 c κs =
     let pre = c .before .before .before .before .before .pre in
-    let end = pre .1 .1 (pre .0 .0) (pre .0 .1) .2 in
-    (end .after .types, (omega (arith, c .row-type .ensures, pre .1 .0), rw (c .row-type .ensures) (end .ready .types .own)))
+    let end = pre .1 .1 (pre .0 .0) (pre .0 .1) .ended in
+    (end .fixed .classes, (omega (arith, c .row-type .ensures, pre .1 .0), rw (c .row-type .ensures) (end .ready .types .own)))
 
 words-requires : tie.Need-words-requires
 words-requires c κs = rule-lattice (c .before .before .before .before .before .before .pre .0 .1)
@@ -47,7 +47,7 @@ returns c T gov =
     let end = begin .pre .1 .1 T gov in
     let holds = held T program (terms-whole program (begin .good .1 .0)) (begin .pre .1 .0) in
     let filled = c .fill .ensures (machineOf T program) (sym (noted .words .ensures ∙ gov .ruled .words-same)) holds (gov .well-formed) in
-    placed (words .settle .last .1 .1 .0) (kinds .settle2 .last .1 .0) gov (end .1) (sym (holds .rows)) (end .2) (words .settle .ensures) (kinds .settle2 .ensures) filled
+    placed (words .settle .last .1 .1 .0) (kinds .settle2 .last .1 .0) gov (sym (holds .rows)) end (words .settle .ensures) (kinds .settle2 .ensures) filled
 
 pub read-off-spec : {M : Type 1} → statement M
 read-off-spec =
