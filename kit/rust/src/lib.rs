@@ -135,7 +135,8 @@ fn reported(entry: impl FnOnce(&mut [u8]) -> u32) -> Result<Report, Refusal> {
 /// assert_eq!(answers, b"0\n0\nOK,0,1\nE,0,GCM,INT\n25\n");
 /// ```
 ///
-/// The script is run twice, once for the length of all answers. Threads may call it at once; it takes as much stack as [`report`].
+/// The script is run twice, once for the length of all answers. Threads may call it at once; it takes as much stack as [`report`], and where the
+/// script has the command `run` as much as [`run`].
 pub fn session(script: &[u8]) -> Vec<u8> {
     let mut answers = vec![0; entry::placement_session(script, &mut [])];
     entry::placement_session(script, &mut answers);
