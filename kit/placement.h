@@ -16,9 +16,9 @@ extern "C" {
 #endif
 
 /* The version of this header and of the archive that belongs to it. CHANGELOG.md lists the versions. */
-#define PLACEMENT_VERSION "4.2.0"
-#define PLACEMENT_VERSION_MAJOR 4
-#define PLACEMENT_VERSION_MINOR 2
+#define PLACEMENT_VERSION "5.0.0"
+#define PLACEMENT_VERSION_MAJOR 5
+#define PLACEMENT_VERSION_MINOR 0
 #define PLACEMENT_VERSION_PATCH 0
 
 /* A report buffer has at least this many bytes, and no report is longer. */
@@ -80,13 +80,13 @@ enum placement_refusal {
     /* With 0. */
     PLACEMENT_NOT_CLOSED = 10,       /* the rows are not one closed program */
     PLACEMENT_SHORT_BUFFER = 11,     /* report buffer shorter than PLACEMENT_REPORT_LENGTH, or answer than PLACEMENT_ANSWER_LENGTH */
-    /* With the term row's number, counted from 0: the least one that leaves no typing. */
+    /* With the term row's number, counted from 0: the least one that leaves no typing. 22 at row 0: the T and P lines alone leave none. */
     PLACEMENT_NO_SHAPES = 21,        /* no typing, even when qualifiers are ignored */
-    PLACEMENT_NO_QUALIFIERS = 22,    /* no typing, even when "at or below" is dropped */
+    PLACEMENT_NO_QUALIFIERS = 22,    /* no typing, even when "at or below" is dropped: two qualifiers meet, or a scheme and a function */
     PLACEMENT_NO_BOUNDS = 23,        /* no typing */
     /*
      * With the parameter's number, counted from 0: the lowest whose scheme is not at or above its floor. The program has typings, but none that
-     * meets every floor. Lower the floor, or change what the program does with that input.
+     * meets every floor. Lower the floor, or change what the program does with that input. A function is PLAIN, and meets the floor PLAIN alone.
      */
     PLACEMENT_BELOW_FLOOR = 24,      /* a parameter's greatest scheme is not at or above its floor */
     /* With 0, for a scheme file: from the two entries that take one, and in the answers to a script. The first of the three that applies. */
@@ -111,6 +111,10 @@ enum placement_refusal {
  *
  * A line's words, such as ADD, INT or RAND, may be in capitals, in small letters or mixed; its tag T, P or E is a capital, and the g of a
  * variable is small. The report has capitals, whatever the table has. The last line may lack its line feed.
+ *
+ * A line P or E of the report ends in its shape: INT for a number, ARROW for a function, and ANY where the table leaves it open, a number
+ * being taken for it in the words. There is no key for a function: with the shape ARROW the word is always PLAIN. A variable that stands with a
+ * function is PLAIN too, and an input that shares it leaves in the open, unless its floor refuses that with 24.
  *
  * Line E,i of the report is the table's row i. The word that the report has for a NUM row is the scheme under which the loader encrypts that
  * literal before upload; PLAIN leaves it in the open. A loader that looks for NUM and ENC rows in the table has to know these words in

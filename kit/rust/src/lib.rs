@@ -74,6 +74,10 @@ impl fmt::Display for Report {
 /// A line's words, such as ADD, INT or RAND, may be in capitals, in small letters or mixed; its tag T, P or E is a capital, and the g of a
 /// variable is small. The report has capitals, whatever the table has. The last line may lack its line feed.
 ///
+/// A line P or E of the report ends in its shape: INT for a number, ARROW for a function, and ANY where the table leaves it open, a number
+/// being taken for it in the words. There is no key for a function: with the shape ARROW the word is always PLAIN. A variable that stands with a
+/// function is PLAIN too, and an input that shares it leaves in the open, unless its floor refuses that with 24.
+///
 /// Line E,i of the report is the table's row i. The word that the report has for a NUM row is the scheme under which the loader encrypts that
 /// literal before upload; PLAIN leaves it in the open. A loader that looks for NUM and ENC rows in the table has to know these words in
 /// either case, or it misses literals. The table's text has every literal in the open: do not upload it as it stands.
@@ -131,7 +135,8 @@ fn reported(entry: impl FnOnce(&mut [u8]) -> u32) -> Result<Report, Refusal> {
 /// assert_eq!(answers, b"0\n0\nOK,0,1\nE,0,GCM,INT\n25\n");
 /// ```
 ///
-/// The script is run twice, once for the length of all answers. Threads may call it at once; it takes as much stack as [`report`].
+/// The script is run twice, once for the length of all answers. Threads may call it at once; it takes as much stack as [`report`], and where the
+/// script has the command `run` as much as [`run`].
 pub fn session(script: &[u8]) -> Vec<u8> {
     let mut answers = vec![0; entry::placement_session(script, &mut [])];
     entry::placement_session(script, &mut answers);

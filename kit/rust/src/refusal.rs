@@ -22,7 +22,7 @@ pub struct Refusal {
 pub enum Place {
     /// A line of the text, counted from 1.
     Line(u32),
-    /// A term row, counted from 0: the least one that leaves no typing.
+    /// A term row, counted from 0: the least one that leaves no typing. With 22 at row 0 the T and P lines alone leave none.
     Row(u32),
     /// A parameter, counted from 0: the lowest whose greatest scheme is not at or above its floor.
     Parameter(u32),
