@@ -21,7 +21,8 @@ use Rattle.model.specs.WellFormed.{WellFormed}
 use Rattle.model.specs.Typing.{Typable}
 use Rattle.model.specs.WellFormed.{WellFormed}
 use Rattle.model.specs.Strength.{whole}
-use Rattle.model.specs.Inference.{ruling, Slot, Shape, Refusal, GreatestTyping}
+use Rattle.model.specs.Inference.{ruling, Slot, param, Listed, Shape, Refusal, GreatestTyping}
+use Rattle.model.proofs.Lawful.{sound-lawful}
 use Rattle.model.specs.Report.{line, report}
 use Rattle.model.specs.Session.{Call, add, redeclare, take-back, infer, Outcome, returning, Infers, Answers, adds, redeclares, takes-back, Session}
 use Rattle.model.specs.Text.{linesOf, Prints, Returns, ReturnsUnder}
@@ -73,6 +74,7 @@ use Rattle.demands.proofs.LeadingLams.{numbers-front}
 use Rattle.demands.proofs.SchemeCommands.{file-converses}
 use Rattle.demands.proofs.EitherCase.{lines-alike, session-alike, prints-alike, returns-alike, other-tag, variable-letter}
 use Rattle.demands.proofs.ReportCapitals.{reported-capitals}
+use Rattle.demands.proofs.PlainFunctions.{reported-plain, declared-int, lines-refused}
 
 -- Demand 1. "Refused are: .. Each has its number in document 01, and a refused call leaves the table and the lent bytes as it found them.
 -- Accepted is everything else".
@@ -194,6 +196,22 @@ pub report-is-greatest : {m : Machine} {buffer : List ℕ} {o : Outcome} → Inf
     × (o .buffer ≡ report m word shape ++ drop (length (report m word shape)) buffer)
     × GreatestTyping (ruling m) m word shape
 report-is-greatest = reported-greatest
+
+-- Document 02, f): "Wherever a qualifier stands with an arrow, in a typing or inside one of its types, it is PLAIN." So is the word of what is
+-- reported a function.
+pub functions-reported-plain : {m : Machine} → Sound (m .schemes) → {word : Slot → ℕ} {shape : Slot → Shape} → GreatestTyping (ruling m) m word shape →
+    (x : Slot) → Listed (ruling m) m x → shape x ≡ Shape.arrow → word x ≡ 0
+functions-reported-plain {m} sound = reported-plain (ruling m) (sound-lawful (m .schemes) sound) (omega arith)
+
+-- "a free type declared RAND is now INT": no parameter whose line names a scheme can be a function.
+pub declared-scheme-is-int : {m : Machine} → Sound (m .schemes) → {word : Slot → ℕ} {shape : Slot → Shape} → GreatestTyping (ruling m) m word shape →
+    (p : ℕ) → p < length (m .params) → 0 < paramAt m p .qualifier → paramAt m p .qualifier < ruling m .words → shape (param p) ≡ Shape.int
+declared-scheme-is-int {m} sound = declared-int (ruling m) (sound-lawful (m .schemes) sound) (omega arith)
+
+-- "Where the T and P lines alone have no typing, the row is 0."
+pub lines-refused-at-row-0 : {m : Machine} {buffer : List ℕ} {o : Outcome} → Infers m buffer o → 6280 ≤ length buffer → Closed m → WellFormed m →
+    ¬ Typable (whole (ruling m)) m 0 → (o .number ≡ 22) × (o .row ≡ 0)
+lines-refused-at-row-0 = lines-refused
 
 -- What the program prints and what the loader's entry returns are determined by their inputs; a text by its first 25,025 bytes.
 module _ {T : SchemeTable} (sound : Sound T) where

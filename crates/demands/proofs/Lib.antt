@@ -17,5 +17,6 @@ pub mod LeadingLams
 pub mod SchemeCommands
 pub mod EitherCase
 pub mod ReportCapitals
+pub mod PlainFunctions
 pub mod Demands
 pub mod Replacements

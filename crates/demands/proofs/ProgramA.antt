@@ -24,8 +24,8 @@ use Rattle.model.specs.declared.Term.the-variants.{Lam, Op, Var}
 use Rattle.starred.specs.Starred.{textOf, PrintsOutput, program-A}
 use Rattle.starred.proofs.Machines.{oneParameter}
 use Rattle.starred.proofs.Bounds.{plain-below-plain, fitting}
-use Rattle.starred.proofs.Printed.{AllWithin, loadOf, reportOf, accepted-prints}
-use Rattle.starred.proofs.Operations.{program-A-prints}
+use Rattle.starred.proofs.Printed.{loadOf, reportOf}
+use Rattle.starred.proofs.Operations.{NumbersWithin, numbers-print, program-A-prints}
 use Rattle.demands.specs.Replacements.{plainForEverySlot, reportIn, program-A-in-FHE}
 use Rattle.demands.proofs.Loading.{printed-reported}
 
@@ -43,12 +43,12 @@ machine-in-FHE = refl
 fhe-below-fhe : below sixTable 1 1 ≡ true
 fhe-below-fhe = reflexive sixTable 1 (lit< tt)
 
-in-FHE-within : AllWithin (oneParameter 1 terms) fhe int int
-in-FHE-within s e = (cc, cc fhe-below-fhe, cc (fhe-below-fhe, plain-below-plain))
+in-FHE-within : NumbersWithin (oneParameter 1 terms) fhe
+in-FHE-within s e functions = (cc, cc fhe-below-fhe, cc (fhe-below-fhe, plain-below-plain))
 
 in-FHE-prints : PrintsOutput program-A-in-FHE
 unfolding loadOf reportOf
-in-FHE-prints = accepted-prints program-A-in-FHE (oneParameter 1 terms) refl refl refl fhe int int (search fitting depth 30) (search fitting depth 30) in-FHE-within refl
+in-FHE-prints = numbers-print program-A-in-FHE (oneParameter 1 terms) refl refl refl fhe (search fitting depth 30) in-FHE-within refl
 
 -- `redeclare 0 1` makes the one of the other.
 redeclared-A : redeclared (oneParameter 7 terms) 0 1 .machine ≡ oneParameter 1 terms

@@ -20,13 +20,13 @@ use Rattle.starred.proofs.Bounds.{plain-below-plain, below-fhe, add-hig
 use Rattle.starred.proofs.Printed.{AllWithin, WithoutFloors, loadOf, reportOf, accepted-prints}
 
 -- No type is free: the typing with INT for all type rows and one qualifier for all variables and literals tells words and shapes.
-abbrev numbers : (m : Machine) → ruling m .Q → Assignment (ruling m .Q)
+abbrev pub numbers : (m : Machine) → ruling m .Q → Assignment (ruling m .Q)
 numbers m q = uniform (whole (ruling m)) m q q int
 
-abbrev NumbersWithin : (m : Machine) → ruling m .Q → Type 0
+abbrev pub NumbersWithin : (m : Machine) → ruling m .Q → Type 0
 NumbersWithin m q = AllWithin m (numbers m q) (numbers m q)
 
-numbers-print : (example : Example) (m : Machine) → loadOf (example .program) ≡ loaded m → closed m ≡ true → WithoutFloors m → (q : ruling m .Q) →
+pub numbers-print : (example : Example) (m : Machine) → loadOf (example .program) ≡ loaded m → closed m ≡ true → WithoutFloors m → (q : ruling m .Q) →
     Equations (whole (ruling m)) m (length (m .terms)) (numbers m q) → NumbersWithin m q → reportOf m (numbers m q) (numbers m q) ≡ textOf (example .output) → PrintsOutput example
 numbers-print example m load-is closed-is none q e all-within report-is =
     let typing = uniform-typing (whole (ruling m)) m (length (m .terms)) q q int (e, tt, λ p. tt) in
