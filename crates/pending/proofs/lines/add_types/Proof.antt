@@ -28,7 +28,7 @@ array-copy-out-row c = omega arith
 add-form-requires : tie.Need-add-form-requires Inv-loop μ-loop
 add-form-requires c κs =
     let head = c .before .before .before .before in
-    (omega (arith, head .loop .inv .1 .few), stands-below 9 (head .loop .x) 64 (formIn (head .before .args .t1) (head .loop .x)) (omega arith) (head .before .pre .1 (head .loop .x) (c .before .before .before .loop-test .taken)))
+    (omega (arith, head .loop .inv .1 .few), stands-below 9 (head .loop .x) 64 (formIn (head .before .args .t1) (head .loop .x)) (omega arith) (head .before .pre .1 (head .loop .x) (omega arith)))
 
 add-x : tie.Need-add-x Inv-loop μ-loop
 add-x c = omega arith
