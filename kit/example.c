@@ -35,7 +35,7 @@ static const char *words(unsigned number) {
     case PLACEMENT_NO_SHAPES:
         return "numbers and functions are mixed up here, or a type would contain itself. Apply functions only, and calculate with numbers only.";
     case PLACEMENT_NO_QUALIFIERS:
-        return "two different schemes would have to be one here. Declare the inputs that meet with one scheme, or with a variable.";
+        return "two different qualifiers would have to be one here, or a function would stand under a scheme. Declare what meets alike or with a variable, and functions PLAIN or with a variable; at row E,0 look at the T and P lines.";
     case PLACEMENT_NO_BOUNDS:
         return "a declared scheme does not support an operation on it. Declare a scheme that supports it, or a variable.";
     case PLACEMENT_BELOW_FLOOR:

@@ -105,7 +105,7 @@ pub demand-2-table : {T : SchemeTable} {call : Call} {o : Outcome} (before rest 
 demand-2-table = session-standing
 
 -- "An accepted inference reports schemes and shapes that complete to a typing by the seven rules of UCLA Technical Report 130012": with the rule of
--- document 02, b) in place of Q-INT.
+-- document 02, b) in place of Q-INT, and with functions PLAIN, f).
 pub demand-2-report : {m : Machine} {buffer : List ℕ} {o : Outcome} → Infers m buffer o → o .number ≡ 0 → ReportsTyping m buffer o
 demand-2-report = reports-typing
 

@@ -15,7 +15,7 @@ use Rattle.forest.proofs.Roots.{found-same}
 use Rattle.graph.specs.Types.{kindAt, typesOf, TypeClasses}
 use Rattle.qualifiers.specs.Classes.{Qualifiers}
 use Rattle.unification.proofs.Classes.{kind-same, kind-other, kind-classes}
-use Rattle.pending.specs.Pending.{Pending, qualifierOf, typeOf}
+use Rattle.pending.specs.Pending.{Pending, pairQualifier, pairType}
 use Rattle.pending.specs.Shapes.{SchemeAt, KeptOrInt, Fixed, PairFixed, kept, made}
 
 -- No scheme stands at q, whose root is s.
@@ -26,7 +26,7 @@ no-scheme found none at =
 
 -- No scheme stands with pair i while its type is unknown.
 abbrev NoScheme : (R u k′ : List ℕ) (Q : Qualifiers) (P : Pending) → ℕ → Type 0
-NoScheme R u k′ Q P i = (r : ℕ) → Found u (typeOf P i) r → kindAt k′ r ≡ Kinds.unknown → ¬ SchemeAt (wordsAt R) (Q .parents) (qualifierOf P i)
+NoScheme R u k′ Q P i = (r : ℕ) → Found u (pairType P i) r → kindAt k′ r ≡ Kinds.unknown → ¬ SchemeAt (wordsAt R) (Q .parents) (pairQualifier P i)
 
 -- The kinds k′ after the first j pairs, from the kinds k.
 pub record Fixing (R u k k′ : List ℕ) (Q : Qualifiers) (P : Pending) (j : ℕ) : Type 0 where
@@ -39,7 +39,7 @@ module _ {R u k : List ℕ} {Q : Qualifiers} {P : Pending} where
   fixing-none classes = record { classes = classes; kinds = λ r. inl refl; free = below-none _ }
 
   -- The pair j is looked at, and what was free stays free: no kind is unknown that was known.
-  module _ {k′ : List ℕ} {j : ℕ} (h : j < P .count) (node : typeOf P j < nodes) (before : Fixing R u k k′ Q P j) where
+  module _ {k′ : List ℕ} {j : ℕ} (h : j < P .count) (node : pairType P j < nodes) (before : Fixing R u k k′ Q P j) where
     next : {k″ : List ℕ} → TypeClasses (typesOf u k″) → ((r : ℕ) → KeptOrInt R u k k″ Q P r) → ((r : ℕ) → kindAt k″ r ≡ Kinds.unknown → kindAt k′ r ≡ Kinds.unknown) → NoScheme R u k″ Q P j → Fixing R u k k″ Q P (j + 1)
     next classes kinds unknown newest =
         record {
@@ -52,7 +52,7 @@ module _ {R u k : List ℕ} {Q : Qualifiers} {P : Pending} where
     was-unknown e (inl same) = sym same ∙ e
     was-unknown e (inr (unknown, int, stands)) = unknown
 
-    pub fixing-more : {k″ : List ℕ} → PairFixed (wordsAt R) (Q .parents) u k′ (qualifierOf P j) (typeOf P j) k″ → Fixing R u k k″ Q P (j + 1)
+    pub fixing-more : {k″ : List ℕ} → PairFixed (wordsAt R) (Q .parents) u k′ (pairQualifier P j) (pairType P j) k″ → Fixing R u k k″ Q P (j + 1)
     fixing-more (kept type none) =
         next (before .classes) (before .kinds) (λ r e. e) (λ r found e. none (ap (kindAt k′) (found-same type found) ∙ e))
     fixing-more (made {r = root} type unknown at) =

@@ -9,15 +9,15 @@ use Rattle.layout.specs.Kinds as Kinds
 use Rattle.forest.specs.Forest.{Found}
 use Rattle.graph.specs.Types.{typesOf, kindAt, TypeClasses}
 use Rattle.qualifiers.specs.Classes.{Qualifiers}
-use Rattle.pending.specs.Pending.{Pending, qualifierOf, typeOf}
+use Rattle.pending.specs.Pending.{Pending, pairQualifier, pairType}
 
 -- Under root r of the types the pair j stands, and its qualifier's class holds a scheme: a constant that is not PLAIN.
 pub record SchemeStands (R : List ℕ) (u : List ℕ) (Q : Qualifiers) (P : Pending) (r : ℕ) : Type 0 where
   pub pair : ℕ
   pub in-list : pair < P .count
-  pub type : Found u (typeOf P pair) r
+  pub type : Found u (pairType P pair) r
   pub root : ℕ
-  pub qualifier : Found (Q .parents) (qualifierOf P pair) root
+  pub qualifier : Found (Q .parents) (pairQualifier P pair) root
   pub scheme : (0 < root) × (root < wordsAt R)
 
 -- The kind of r is as it was, or a scheme that stands there made it INT.

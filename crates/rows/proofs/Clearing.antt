@@ -22,7 +22,7 @@ use Rattle.qualifiers.proofs.Uniting.{imposed-none}
 use Rattle.readings.specs.Standing.{PlainAt}
 use Rattle.occurs.proofs.Readings.{by-less, reads-int, reads-arrow}
 use Rattle.unification.specs.Noted.{Noted}
-use Rattle.pending.specs.Pending.{Pending, pendingOf, qualifierOf, typeOf, AllPlain, ArrowsPlain, Marked, Held, Watched, SamePair, Swept}
+use Rattle.pending.specs.Pending.{Pending, pendingOf, pairQualifier, pairType, AllPlain, ArrowsPlain, Marked, Held, Watched, SamePair, Swept}
 use Rattle.rows.specs.Steps.{Extended, Parted, Carried, PartsPlain, PlainAtRow}
 
 -- The pairs are of nodes.
@@ -195,7 +195,7 @@ module _ {R kids u k left right left′ right′ crowded : List ℕ} {Q Q′ : Q
       record {
         from = λ j h.
             ⊎-elim (λ old. inl (old .0, record { in-list = old .1 .0; qualifier = old .1 .1; type = old .1 .2 })) inr
-            (each-after noted (λ q x. ((k : ℕ) × ((k < P .count) × (q ≡ qualifierOf P k) × (x ≡ typeOf P k))) ⊎ ((q ≡ rowQualifier i) × (x ≡ rowType i)))
+            (each-after noted (λ q x. ((k : ℕ) × ((k < P .count) × (q ≡ pairQualifier P k) × (x ≡ pairType P k))) ⊎ ((q ≡ rowQualifier i) × (x ≡ rowType i)))
             (λ k below. let pair = cleared .from k below in inl (pair .0, (pair .1 .in-list, pair .1 .qualifier, pair .1 .type)))
             (inr (refl, refl)) j h);
         kept = λ t v reads linked plain. cleared .kept t v reads linked (each-before noted (PlainAt t v) plain .0);

@@ -25,7 +25,7 @@ use Rattle.readings.specs.Standing as standing
 use Rattle.readings.specs.Standing.{PlainAt, Stands, param, row}
 use Rattle.readings.proofs.Standing.{plain-with, plain-stands, plain-of-stands}
 use Rattle.setup.specs.Descriptors.{HasParts, Written, blank, form, abstraction, application}
-use Rattle.pending.specs.Pending.{Pending, qualifierOf, typeOf, AllPlain, Watched}
+use Rattle.pending.specs.Pending.{Pending, pairQualifier, pairType, AllPlain, Watched}
 use Rattle.rows.specs.Steps.{Ready, PlainBefore, PartsPlain}
 use Rattle.solver.specs.State.{After}
 use Rattle.solver.specs.Runs.{Governed}
@@ -118,11 +118,11 @@ module _ {R : List ℕ} {m : Machine} (wf : WellFormed m) {kids u k p b : List �
 
     -- A reading of the state in which the pending pairs are PLAIN, and the types that are unknown are too inside.
     pub plain-reading : {t : ℕ → Ty ℕ} {v : ℕ → ℕ} → Parts kids → Watched i (typesOf u k) (qualifiersOf p b) P → i ≤ 256 → Reads (typesOf u k) kids t v → Linked p v →
-        ((j y : ℕ) → j < P .count → UnknownClass (typesOf u k) (typeOf P j) y → PlainAt t v (qualifierOf P j) (typeOf P j)) →
+        ((j y : ℕ) → j < P .count → UnknownClass (typesOf u k) (pairType P j) y → PlainAt t v (pairQualifier P j) (pairType P j)) →
         ((x y : ℕ) → x < nodes → UnknownClass (typesOf u k) x y → PlainArrows (v 0) (v 0) (t x)) → Plain m i t v
     plain-reading {t} {v} parts watched few reads linked pairs leaves =
         let listed : AllPlain P t v =
-        λ j h. plain-by-class (after .types) reads (qualifierOf P j) (typeOf P j) (omega (arith, watched .held .type-nodes j h)) (λ y class. pairs j y h class) (λ y class. watched .plain v linked j y h class) in
+        λ j h. plain-by-class (after .types) reads (pairQualifier P j) (pairType P j) (omega (arith, watched .held .type-nodes j h)) (λ y class. pairs j y h class) (λ y class. watched .plain v linked j y h class) in
         let stands = after .covers t v reads linked listed in
         plain-of-stands m t v i (all-inside (after .types) reads parts (parts-plain t v stands) leaves) stands wf
 
@@ -131,5 +131,5 @@ module _ {R : List ℕ} {m : Machine} (wf : WellFormed m) {kids u k p b : List �
         ((x y : ℕ) → x < nodes → Found u x y → kindAt k y ≡ 0 → t x ≡ int) → Plain m i t v
     plain-ints {t} {v} parts watched few reads linked ints =
         plain-reading parts watched few reads linked
-        (λ j y h class a s r w e. absurd (arrow-not-int (sym e ∙ ints (typeOf P j) y (omega (arith, watched .held .type-nodes j h)) (class .found) (class .unknown))))
+        (λ j y h class a s r w e. absurd (arrow-not-int (sym e ∙ ints (pairType P j) y (omega (arith, watched .held .type-nodes j h)) (class .found) (class .unknown))))
         (λ x y h class. subst (PlainArrows (v 0) (v 0)) (sym (ints x y h (class .found) (class .unknown))) tt)

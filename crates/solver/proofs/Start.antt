@@ -32,7 +32,7 @@ use Rattle.readings.proofs.Rows.{meaning-node, meets-fewer, plain-fewer}
 use Rattle.readings.proofs.Lines.{first-row-typable}
 use Rattle.readings.proofs.Standing.{plain-stands}
 use Rattle.readings.proofs.Strengths.{none-unordered}
-use Rattle.pending.specs.Pending.{Pending, qualifierOf, typeOf, linePairs, AllPlain, ArrowsPlain, Marked, Watched, SamePair, QualifiersBelow, Swept}
+use Rattle.pending.specs.Pending.{Pending, pairQualifier, pairType, linePairs, AllPlain, ArrowsPlain, Marked, Watched, SamePair, QualifiersBelow, Swept}
 use Rattle.rows.specs.Steps.{Ready}
 use Rattle.setup.specs.Descriptors.{Described}
 use Rattle.setup.specs.Started.{formKind, startKind, Started}
@@ -50,9 +50,9 @@ either (inr b) f g = g b
 -- The pairs of the lines T and P, but those of INT.
 pub record LinePairs (m : Machine) (k : List ℕ) (P : Pending) : Type 0 where
   pub few : P .count ≤ linePairs
-  pub nodes : (j : ℕ) → j < P .count → (qualifierOf P j < rowQualifier 0) × (typeOf P j < rowType 0)
-  pub sound : (j : ℕ) → j < P .count → Stands m 0 (qualifierOf P j) (typeOf P j)
-  pub complete : (q x : ℕ) → Stands m 0 q x → ((j : ℕ) × (j < P .count) × (qualifierOf P j ≡ q) × (typeOf P j ≡ x)) ⊎ (kindAt k x ≡ intKind)
+  pub nodes : (j : ℕ) → j < P .count → (pairQualifier P j < rowQualifier 0) × (pairType P j < rowType 0)
+  pub sound : (j : ℕ) → j < P .count → Stands m 0 (pairQualifier P j) (pairType P j)
+  pub complete : (q x : ℕ) → Stands m 0 q x → ((j : ℕ) × (j < P .count) × (pairQualifier P j ≡ q) × (pairType P j ≡ x)) ⊎ (kindAt k x ≡ intKind)
 
 module _ {R : List ℕ} {m : Machine} (gov : Governed R m) {kids u k p b : List ℕ} (described : Described m kids) (started : Started m (topAt R) (typesOf u k) (qualifiersOf p b)) where
   wf : WellFormed m
@@ -249,10 +249,10 @@ module _ {R : List ℕ} {m : Machine} (gov : Governed R m) {kids u k p b : List 
       gathered-plain : (t : ℕ → Ty ℕ) (v : ℕ → ℕ) → Reads (typesOf u k) kids t v → Linked p′ v → AllPlain P′ t v → AllPlain P t v
       gathered-plain t v reads link plain j h = go (swept .kept j h)
         where
-          go : ((i : ℕ) × (i < P′ .count) × SamePair P′ i P j) ⊎ ((r : ℕ) × Found u (typeOf P j) r × ¬ (kindAt k r ≡ 0)) → PlainAt t v (qualifierOf P j) (typeOf P j)
+          go : ((i : ℕ) × (i < P′ .count) × SamePair P′ i P j) ⊎ ((r : ℕ) × Found u (pairType P j) r × ¬ (kindAt k r ≡ 0)) → PlainAt t v (pairQualifier P j) (pairType P j)
           go (inl (i, below, same)) = λ a s r w is. ap v (sym (same .qualifier)) ∙ plain i below a s r w (ap t (same .type) ∙ is)
           go (inr (r, found, known)) =
-              plain-by-class types-start reads (qualifierOf P j) (typeOf P j) (omega (arith, lines .nodes j h))
+              plain-by-class types-start reads (pairQualifier P j) (pairType P j) (omega (arith, lines .nodes j h))
               (λ y class. absurd (known (ap (kindAt k) (found-same found (class .found)) ∙ class .unknown)))
               (λ y class. swept .imposed .outof refl v link .1 j y h class)
 

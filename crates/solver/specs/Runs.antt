@@ -25,7 +25,7 @@ use Rattle.report.specs.Codes.{codedWord, codedShape}
 use Rattle.report.specs.declared.Codes.{Codes}
 use Rattle.report.specs.Written.{Matches}
 use Rattle.setup.specs.Descriptors.{Written}
-use Rattle.pending.specs.Pending.{Pending, qualifierOf, typeOf, linePairs, Sweeps}
+use Rattle.pending.specs.Pending.{Pending, pairQualifier, pairType, linePairs, Sweeps}
 use Rattle.pending.specs.Lines.{FormPair, ParamPair}
 use Rattle.pending.specs.declared.Sweep.{Sweep}
 use Rattle.pending.specs.Shapes.{Fixed}
@@ -101,9 +101,9 @@ StillWritten R q ty terms rows kids kids′ =
 pub record LinesTaken (R : List ℕ) (types : List TypeRow) (typecount : ℕ) (q ty : List ℕ) (paramcount : ℕ) (T : Types) (Q Q′ : Qualifiers) (left right crowded : List ℕ) (r : Sweep) : Type 0 where
   pub gathered : Pending
   pub few : gathered .count ≤ linePairs
-  pub sound : (j : ℕ) → j < gathered .count → LinePair types typecount q ty paramcount (qualifierOf gathered j) (typeOf gathered j)
+  pub sound : (j : ℕ) → j < gathered .count → LinePair types typecount q ty paramcount (pairQualifier gathered j) (pairType gathered j)
   pub complete : (s x : ℕ) → LinePair types typecount q ty paramcount s x →
-      ((j : ℕ) × (j < gathered .count) × (qualifierOf gathered j ≡ s) × (typeOf gathered j ≡ x)) ⊎ (kindAt (T .kinds) x ≡ intKind)
+      ((j : ℕ) × (j < gathered .count) × (pairQualifier gathered j ≡ s) × (pairType gathered j ≡ x)) ⊎ (kindAt (T .kinds) x ≡ intKind)
   pub sweeps : Sweeps R T Q Q′ gathered left right crowded r
 
 -- A run from a state that stands for no rows yet, for every machine that the arrays hold.

@@ -71,7 +71,10 @@ impl Refusal {
             10 => "the rows are not one closed program",
             11 => "report buffer too short",
             21 => "numbers and functions are mixed up, or a type would contain itself",
-            22 => "two different schemes would have to be one",
+            22 => {
+                "two different qualifiers would have to be one, or a function would stand under a scheme; \
+                 at row 0 by the T and P lines alone"
+            }
             23 => "a declared scheme does not support an operation on it",
             24 => {
                 "the greatest scheme for this input is not at or above its floor: \
