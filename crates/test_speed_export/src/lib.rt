@@ -31,18 +31,12 @@ pub extern "C" fn solve_repeatedly(text: &[u8], times: u32, buffer: &mut [u8]) -
 fn infer_times(table: Table, times: u32)
     requires { ⌜ Ready table ⌝ }
 {
+    let mut buffer = [0u8; 6280];
     let mut i = 0;
     while i < times {
-        infer_once(table);
+        inference::infer(table, &mut buffer);
         i += 1;
     }
-}
-
-fn infer_once(table: Table)
-    requires { ⌜ Ready table ⌝ }
-{
-    let mut buffer = [0u8; 6280];
-    inference::infer(table, &mut buffer);
 }
 
 fn solve_times(table: Table, times: u32)
@@ -53,13 +47,7 @@ fn solve_times(table: Table, times: u32)
     }
     let mut i = 0;
     while i < times {
-        solve_once(table);
+        inference::solve(table);
         i += 1;
     }
-}
-
-fn solve_once(table: Table)
-    requires { ⌜ Ready table × (0 < length (lists table .terms)) ⌝ }
-{
-    inference::solve(table);
 }

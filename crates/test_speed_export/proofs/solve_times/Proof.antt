@@ -19,8 +19,8 @@ returns c = search needs
 loop-holds : tie.Need-loop-holds Inv-loop μ-loop
 loop-holds c = search needs
 
-solve-once-requires : tie.Need-solve-once-requires Inv-loop μ-loop
-solve-once-requires c κs = search needs
+solve-requires : tie.Need-solve-requires Inv-loop μ-loop
+solve-requires c κs = search needs
 
 add-i : tie.Need-add-i Inv-loop μ-loop
 add-i c = search needs
@@ -43,7 +43,7 @@ solve-times-spec =
     term-rows-requires
     returns
     loop-holds
-    solve-once-requires
+    solve-requires
     add-i
     loop-less
     loop-again
