@@ -4,17 +4,13 @@ use native.Mathlib.Decide.{decLt}
 use native.Mathlib.Omega.{arith}
 use mathlib.Core.List.{List}
 use mathlib.Core.Logic.{_⊎_, inl, inr}
-use mathlib.Core.Path.{_≡_, refl, sym, ap, subst, _∙_}
+use mathlib.Core.Path.{_≡_, refl, sym, ap, _∙_}
 use lib.ListN.{getD}
-use Rattle.layout.specs.Kinds.{intKind}
-use Rattle.model.specs.Machine.{formIn}
-use Rattle.model.specs.WellFormed.{TypeStands}
-use Rattle.model.specs.declared.TypeForm.{TypeForm}
-use Rattle.model.specs.declared.TypeForm.the-variants.{Int, Any, Arrow}
-use Rattle.model.specs.declared.TypeRow.{TypeRow}
+use Rattle.layout.specs.Kinds.{intKind, firstArrow}
 use Rattle.forest.specs.Pairs.{Notes, leftAt, rightAt}
 use Rattle.forest.proofs.Links.{by-eq}
-use Rattle.graph.specs.Types.{kindAt}
+use Rattle.graph.specs.Types as graph
+use Rattle.graph.specs.Types.{kindAt, argumentQualifier, resultQualifier}
 use Rattle.pending.specs.Lines.{FormPair, argument, result, ParamPair, param, Added, noted, left-out, OnePair, PairOf, Adds}
 
 -- The pair of q and x has a place, or its type is INT.
@@ -97,47 +93,40 @@ adds-then {S} {S′} {U} {k} {N} {N₁} {N₂} {n} {n₁} {n₂} into outof sum 
     complete q x (inl s) = first q x (one .gathered .complete q x s)
     complete q x (inr s) = second q x (two .gathered .complete q x s)
 
--- What one row adds. An ARROW row's types are nodes of type rows.
-pub stands-below : (w i m : ℕ) (form : TypeForm) → i ≤ m → TypeStands w i form → TypeStands w m form
-stands-below w i m Int h stands = tt
-stands-below w i m Any h stands = tt
-stands-below w i m (Arrow q a q′ b) h stands = (stands .0, omega (arith, stands .1), stands .2, omega (arith, stands .3))
-
-pub adds-arrow : {k : List ℕ} {N N₁ N₂ : Notes} {n q a q′ b n₁ n₂ : ℕ} → Added k N N₁ n q a n₁ → Added k N₁ N₂ n₁ q′ b n₂ → Adds (PairOf (Arrow q a q′ b)) k N N₂ n 2 n₂
-adds-arrow one two = adds-then (λ s x pair. pair) (λ s x pair. pair) (omega arith) (adds-one one) (adds-one two)
+-- What an ARROW row adds.
+pub adds-arrow : (kids : List ℕ) (d : ℕ) {k : List ℕ} {N N₁ N₂ : Notes} {n q a q′ b n₁ n₂ : ℕ} → firstArrow ≤ kindAt k d →
+    q ≡ argumentQualifier kids d → a ≡ graph.argument kids d → q′ ≡ resultQualifier kids d → b ≡ graph.result kids d →
+    Added k N N₁ n q a n₁ → Added k N₁ N₂ n₁ q′ b n₂ → Adds (PairOf k kids d) k N N₂ n 2 n₂
+adds-arrow kids d arrow eq ea eq′ eb one two =
+    adds-then (λ s x pair. (arrow, pair)) (λ s x pair. pair .1) (omega arith) (adds-one (rw (eq, ea) at one)) (adds-one (rw (eq′, eb) at two))
 
 -- One more row.
-module _ {types : List TypeRow} {k : List ℕ} where
-  pub forms-none : {N : Notes} → Adds (FormPair types 0) k N N 0 0 0
+module _ {k kids : List ℕ} where
+  pub forms-none : {N : Notes} → Adds (FormPair k kids 0) k N N 0 0 0
   forms-none = adds-none none
     where
-      none : (q x : ℕ) → FormPair types 0 q x → ⊥
-      none q x (argument h e) = omega arith
-      none q x (result h e) = omega arith
+      none : (q x : ℕ) → FormPair k kids 0 q x → ⊥
+      none _ _ (argument h arrow) = omega arith
+      none _ _ (result h arrow) = omega arith
 
-  pub forms-more : {N N₁ N₂ : Notes} {x n₁ n₂ : ℕ} → Adds (FormPair types x) k N N₁ 0 (2 * x) n₁ → Adds (PairOf (formIn types x)) k N₁ N₂ n₁ 2 n₂ → Adds (FormPair types (x + 1)) k N N₂ 0 (2 * (x + 1)) n₂
+  pub forms-more : {N N₁ N₂ : Notes} {x n₁ n₂ : ℕ} → Adds (FormPair k kids x) k N N₁ 0 (2 * x) n₁ → Adds (PairOf k kids x) k N₁ N₂ n₁ 2 n₂ → Adds (FormPair k kids (x + 1)) k N N₂ 0 (2 * (x + 1)) n₂
   forms-more {x = x} = adds-then into outof (omega arith)
     where
-      newest : (form : TypeForm) (q a : ℕ) → formIn types x ≡ form → PairOf form q a → FormPair types (x + 1) q a
-      newest Int q a e pair = absurd pair
-      newest Any q a e pair = absurd pair
-      newest (Arrow _ _ _ _) q a e (inl same) = rw (same .0, same .1) (argument {d = x} (omega arith) e)
-      newest (Arrow _ _ _ _) q a e (inr same) = rw (same .0, same .1) (result {d = x} (omega arith) e)
+      into : (q a : ℕ) → FormPair k kids x q a ⊎ PairOf k kids x q a → FormPair k kids (x + 1) q a
+      into _ _ (inl (argument {d} h arrow)) = argument {d = d} (omega arith) arrow
+      into _ _ (inl (result {d} h arrow)) = result {d = d} (omega arith) arrow
+      into q a (inr (arrow, inl same)) = rw (same .0, same .1) (argument {d = x} (omega arith) arrow)
+      into q a (inr (arrow, inr same)) = rw (same .0, same .1) (result {d = x} (omega arith) arrow)
 
-      into : (q a : ℕ) → FormPair types x q a ⊎ PairOf (formIn types x) q a → FormPair types (x + 1) q a
-      into q a (inl (argument {d} h e)) = argument {d = d} (omega arith) e
-      into q a (inl (result {d} h e)) = result {d = d} (omega arith) e
-      into q a (inr pair) = newest _ q a refl pair
-
-      outof : (q a : ℕ) → FormPair types (x + 1) q a → FormPair types x q a ⊎ PairOf (formIn types x) q a
-      outof q a (argument {d} h e) =
+      outof : (q a : ℕ) → FormPair k kids (x + 1) q a → FormPair k kids x q a ⊎ PairOf k kids x q a
+      outof _ _ (argument {d} h arrow) =
           by-eq d x
-          (λ same. inr (subst (λ (form : TypeForm). PairOf form q a) (sym e ∙ ap (formIn types) same) (inl (refl, refl))))
-          (λ other. inl (argument {d = d} (omega arith) e))
-      outof q a (result {d} h e) =
+          (λ same. rw (sym same) (inr (arrow, inl (refl, refl))))
+          (λ other. inl (argument {d = d} (omega arith) arrow))
+      outof _ _ (result {d} h arrow) =
           by-eq d x
-          (λ same. inr (subst (λ (form : TypeForm). PairOf form q a) (sym e ∙ ap (formIn types) same) (inr (refl, refl))))
-          (λ other. inl (result {d = d} (omega arith) e))
+          (λ same. rw (sym same) (inr (arrow, inr (refl, refl))))
+          (λ other. inl (result {d = d} (omega arith) arrow))
 
 -- One more parameter.
 module _ {qualifiers typerows k : List ℕ} where

@@ -4,19 +4,16 @@ use mathlib.Core.List.{List}
 use mathlib.Core.Logic.{_⊎_}
 use mathlib.Core.Path.{_≡_}
 use lib.ListN.{getD}
-use Rattle.model.specs.Machine.{formIn}
-use Rattle.model.specs.declared.TypeForm.{TypeForm}
-use Rattle.model.specs.declared.TypeForm.the-variants.{Int, Any, Arrow}
-use Rattle.model.specs.declared.TypeRow.{TypeRow}
-use Rattle.layout.specs.Kinds.{intKind}
+use Rattle.layout.specs.Kinds.{intKind, firstArrow}
 use Rattle.forest.specs.Pairs.{Notes, leftAt, rightAt}
-use Rattle.graph.specs.Types.{kindAt}
+use Rattle.graph.specs.Types as graph
+use Rattle.graph.specs.Types.{kindAt, argumentQualifier, resultQualifier}
 use Rattle.unification.specs.Noted.{Noted}
 
--- A pair of one of the first type rows.
-pub data FormPair (types : List TypeRow) (count : ℕ) : ℕ → ℕ → Type 0 where
-  argument : {d q a q′ b : ℕ} → d < count → formIn types d ≡ Arrow q a q′ b → FormPair types count q a
-  result : {d q a q′ b : ℕ} → d < count → formIn types d ≡ Arrow q a q′ b → FormPair types count q′ b
+-- A pair of one of the first type rows: by the kinds the row is an ARROW, and its descriptor has the pair.
+pub data FormPair (k kids : List ℕ) (count : ℕ) : ℕ → ℕ → Type 0 where
+  argument : {d : ℕ} → d < count → firstArrow ≤ kindAt k d → FormPair k kids count (argumentQualifier kids d) (graph.argument kids d)
+  result : {d : ℕ} → d < count → firstArrow ≤ kindAt k d → FormPair k kids count (resultQualifier kids d) (graph.result kids d)
 
 -- A pair of one of the first parameters, whose nodes the lists hold.
 pub data ParamPair (qualifiers typerows : List ℕ) (count : ℕ) : ℕ → ℕ → Type 0 where
@@ -41,10 +38,9 @@ pub data Added (k : List ℕ) (N N′ : Notes) (n q x n′ : ℕ) : Type 0 where
 abbrev pub OnePair : ℕ → ℕ → ℕ → ℕ → Type 0
 OnePair q x q′ x′ = (q′ ≡ q) × (x′ ≡ x)
 
-abbrev pub PairOf : TypeForm → ℕ → ℕ → Type 0
-PairOf Int s x = ⊥
-PairOf Any s x = ⊥
-PairOf (Arrow q a q′ b) s x = OnePair q a s x ⊎ OnePair q′ b s x
+abbrev pub PairOf : (k kids : List ℕ) → ℕ → ℕ → ℕ → Type 0
+PairOf k kids d s x =
+    (firstArrow ≤ kindAt k d) × (OnePair (argumentQualifier kids d) (graph.argument kids d) s x ⊎ OnePair (resultQualifier kids d) (graph.result kids d) s x)
 
 -- The pairs of the sort S were added behind the first n, at most so many.
 pub record Adds (S : ℕ → ℕ → Type 0) (k : List ℕ) (N N′ : Notes) (n most n′ : ℕ) : Type 0 where

@@ -1,5 +1,5 @@
 // Pairs of a qualifier and an unknown type that stand together: once the type is an arrow the qualifier is PLAIN.
-pub mod lines;
+pub mod gather;
 pub mod shapes;
 
 use layout::FIRST_ARROW;

@@ -16,8 +16,8 @@ use Rattle.model.specs.Machine.{Machine, noTypeRow, noParam, formIn, paramIn}
 use Rattle.model.specs.declared.TypeRow.{TypeRow}
 use Rattle.model.specs.declared.Param.{Param}
 use Rattle.qualifiers.specs.Classes.{boundAt, qualifiersOf}
-use Rattle.setup.specs.Started.{formKind, startKind, Started}
-use Rattle.setup.specs.Passes.{SelfRooted, FirstHold, Kinds}
+use Rattle.setup.specs.Started.{formKind, rowKind, startKind, Started}
+use Rattle.setup.specs.Passes.{KindsNoted, SelfRooted, FirstHold}
 
 pub rooted-none : SelfRooted 0 (replicate nodes 0)
 rooted-none = record { size = length-replicate {A = ℕ} nodes 0; own = below-none _ }
@@ -69,11 +69,23 @@ params-hold f params count l none hold p below = hold .at p below ∙ go (ltb p 
     go false e =
         sym (ap f (List·getD-eq-default (take count params) noParam {n = p} (omega (arith, length-take count params, ltb-false p count e))) ∙ none)
 
-module _ (types : List TypeRow) (count top : ℕ) {u k p b : List ℕ} where
+-- The kinds of the first type rows, from an array of them.
+pub kinds-hold : (types : List TypeRow) (count : ℕ) (l : List ℕ) → length types ≡ 64 → count ≤ 64 →
+    FirstHold (λ x. formKind x (formIn types x)) 64 count l → KindsNoted (take count types) l
+kinds-hold types count l whole fits hold x below = hold .at x below ∙ go (ltb x count) refl
+  where
+    counted : length (take count types) ≡ count
+    counted = rw length-take (omega arith)
+
+    go : (t : Bool) → ltb x count ≡ t → cond (ltb x count) (formKind x (formIn types x)) 0 ≡ rowKind (take count types) x
+    go true e = rw (counted, e) (ap (λ (row : TypeRow). formKind x (row .form)) (sym (getD-take count types x noTypeRow (ltb-true x count e))))
+    go false e = rw (counted, e) refl
+
+module _ (formkinds : List ℕ) (top : ℕ) {u k p b : List ℕ} where
   pub started :
-      length types ≡ 64 → count ≤ 64 → SelfRooted nodes u → Kinds types count k → SelfRooted nodes p → b ≡ replicate nodes top →
-      (m : Machine) → m .types ≡ take count types → Started m top (typesOf u k) (qualifiersOf p b)
-  started whole fits u-roots kinds p-roots unrestricted m e =
+      SelfRooted nodes u → FirstHold (λ x. getD formkinds x 0) nodes 64 k → SelfRooted nodes p → b ≡ replicate nodes top →
+      (m : Machine) → length (m .types) ≤ 64 → KindsNoted (m .types) formkinds → Started m top (typesOf u k) (qualifiersOf p b)
+  started u-roots kinds p-roots unrestricted m fits noted =
       record {
         sizes = (u-roots .size, kinds .size, p-roots .size, ap length unrestricted ∙ length-replicate {A = ℕ} nodes top);
         type-roots = u-roots .own;
@@ -82,13 +94,9 @@ module _ (types : List TypeRow) (count top : ℕ) {u k p b : List ℕ} where
         bounds = λ x h. ap (λ (l : List ℕ). boundAt l x) unrestricted ∙ getD-replicate {A = ℕ} nodes x top 0 h;
       }
     where
-      counted : length (m .types) ≡ count
-      counted = rw (e, length-take) (omega arith)
-
-      same : (x : ℕ) → cond (ltb x count) (formKind x (formIn types x)) 0 ≡ startKind m x
-      same x = go (ltb x count) refl
+      same : (x : ℕ) → cond (ltb x 64) (getD formkinds x 0) 0 ≡ startKind m x
+      same x = go (ltb x 64) refl
         where
-          go : (t : Bool) → ltb x count ≡ t → cond (ltb x count) (formKind x (formIn types x)) 0 ≡ startKind m x
-          go true w =
-              rw (counted, w, e) (ap (λ (row : TypeRow). formKind x (row .form)) (sym (getD-take count types x noTypeRow (ltb-true x count w))))
-          go false w = rw (counted, w) refl
+          go : (t : Bool) → ltb x 64 ≡ t → cond t (getD formkinds x 0) 0 ≡ startKind m x
+          go true e = noted x (ltb-true x 64 e)
+          go false e = rw (le-ltb x (length (m .types)) (omega (arith, ltb-false x 64 e))) refl

@@ -3,38 +3,35 @@ use Prim.Native.Nat.{ℕ, _<_}
 use native.Mathlib.Omega.{arith}
 use mathlib.Core.List.{List}
 use mathlib.Core.Path.{_≡_, sym, ap, subst, subst₂, _∙_}
-use lib.ListN.{length}
 use Rattle.layout.specs.Layout.{rowType, descriptors}
-use Rattle.model.specs.Machine.{Machine, termIn, paramAt, termAt}
+use Rattle.model.specs.Machine.{Machine, paramAt}
 use Rattle.model.specs.declared.Term.{Term}
-use Rattle.model.specs.declared.TermRow.{TermRow}
 use Rattle.readings.specs.Nodes.{parameterOf, nodeNamed}
-use Rattle.setup.specs.Descriptors.{namedQualifier, namedTyperow, Describes, Written}
+use Rattle.rows.specs.Rows.{RowStands}
+use Rattle.setup.specs.Descriptors.{namedQualifier, namedTyperow, Describes, Written, Described}
 use Rattle.setup.specs.Passes.{Only, RowLeft}
-use Rattle.setup.proofs.Descriptors.{names-place, written-row}
-use Rattle.solver.specs.Runs.{RowsOf, RowReady}
+use Rattle.setup.proofs.Descriptors.{names-place, written-row, described-kept, forms-kept-none, forms-kept-more}
+use Rattle.solver.specs.Runs.{RowOf}
 
-module _ {R qs tys : List ℕ} {terms : List TermRow} {rows : ℕ} {m : Machine} (of : RowsOf R m qs tys terms rows) {i : ℕ} (below : i < rows) where
-  pub row-in-list : i < length (m .terms)
-  row-in-list = of .same-term i below .0
+module _ {R qs tys : List ℕ} {m : Machine} {i : ℕ} {term : Term} (row : RowOf R m qs tys i term) (stands : RowStands i term (nodeNamed qs term) (nodeNamed tys term)) where
+  place : parameterOf term < 64
+  place = names-place 9 64 i term (omega arith) (stands .stands)
 
-  module _ (stands : RowReady qs tys terms i) where
-    place : parameterOf (termIn terms i) < 64
-    place = names-place 9 64 i (termIn terms i) (omega arith) (stands .stands)
+  pub same-qualifier : nodeNamed qs term ≡ namedQualifier m i
+  same-qualifier = row .noted .qualifier (parameterOf term) place ∙ ap (λ (t : Term). paramAt m (parameterOf t) .qualifier) (sym (row .same-term))
 
-    pub same-qualifier : nodeNamed qs (termIn terms i) ≡ namedQualifier m i
-    same-qualifier =
-        of .noted .qualifier (parameterOf (termIn terms i)) place ∙ ap (λ (term : Term). paramAt m (parameterOf term) .qualifier) (sym (of .same-term i below .1))
+  pub same-typerow : nodeNamed tys term ≡ namedTyperow m i
+  same-typerow = row .noted .typerow (parameterOf term) place ∙ ap (λ (t : Term). paramAt m (parameterOf t) .typerow) (sym (row .same-term))
 
-    pub same-typerow : nodeNamed tys (termIn terms i) ≡ namedTyperow m i
-    same-typerow =
-        of .noted .typerow (parameterOf (termIn terms i)) place ∙ ap (λ (term : Term). paramAt m (parameterOf term) .typerow) (sym (of .same-term i below .1))
+  -- The row's descriptor was written, and the others stayed.
+  module _ (kids kids′ : List ℕ) (only : Only (rowType i) kids kids′) (describes : Describes kids′ i term (nodeNamed qs term) (nodeNamed tys term)) (left : RowLeft term kids kids′) where
+    pub written-next : ((d : ℕ) → d < descriptors → Written m kids d) → (d : ℕ) → d < descriptors → Written m kids′ d
+    written-next =
+        let same = sym (row .same-term) in
+        written-row m kids kids′ i (row .in-list) only
+        (subst (λ (t : Term). Describes kids′ i t (namedQualifier m i) (namedTyperow m i)) same (subst₂ (Describes kids′ i term) same-qualifier same-typerow describes))
+        (subst (λ (t : Term). RowLeft t kids kids′) same left)
 
-    -- The row's descriptor was written, and the others stayed.
-    pub written-next : (kids kids′ : List ℕ) → Only (rowType i) kids kids′ → Describes kids′ i (termIn terms i) (nodeNamed qs (termIn terms i)) (nodeNamed tys (termIn terms i)) → RowLeft (termIn terms i) kids kids′ →
-        ((d : ℕ) → d < descriptors → Written m kids d) → (d : ℕ) → d < descriptors → Written m kids′ d
-    written-next kids kids′ only describes left =
-        let term = sym (of .same-term i below .1) in
-        written-row m kids kids′ i row-in-list only
-        (subst (λ (t : Term). Describes kids′ i t (namedQualifier m i) (namedTyperow m i)) term (subst₂ (Describes kids′ i (termIn terms i)) same-qualifier same-typerow describes))
-        (subst (λ (t : Term). RowLeft t kids kids′) term left)
+    pub described-next : Described m kids → Described m kids′
+    described-next described =
+        described-kept m kids kids′ (row .governed .well-formed .types-fit) described (only .parts) (forms-kept-more kids kids kids′ i (forms-kept-none kids) only) (written-next (described .written))

@@ -8,7 +8,7 @@ use lib.ListN.{length, getD, take, length-take, List·getD-eq-default}
 use lib.Seq.{getD-take}
 use Rattle.layout.specs.Layout.{rowType, rowQualifier}
 use Rattle.scheme.specs.Schemes.{SchemeTable, words}
-use Rattle.model.specs.Machine.{Machine, noParam, noTermRow, paramAt, termAt}
+use Rattle.model.specs.Machine.{Machine, noParam, noTermRow, paramAt, termAt, termIn}
 use Rattle.model.specs.WellFormed.{WellFormed, TermStands}
 use Rattle.model.specs.Typing.{Typable}
 use Rattle.model.specs.Strength.{whole}
@@ -23,22 +23,41 @@ use Rattle.readings.specs.Nodes.{parameterOf, nodeNamed}
 use Rattle.scheme.proofs.Schemes.{sound-few}
 use Rattle.readings.specs.Programs.{Counted, machineOf}
 use Rattle.setup.specs.Descriptors.{namedQualifier, namedTyperow}
-use Rattle.setup.specs.Passes.{ParamsNoted}
+use Rattle.setup.specs.Passes.{ParamsNoted, KindsNoted}
 use Rattle.setup.proofs.Descriptors.{names-place}
 use Rattle.rows.specs.Rows.{RowStands}
-use Rattle.solver.specs.Runs.{Governed, Fails, RowsOf, RowReady}
+use Rattle.solver.specs.Runs.{Governed, Fails, RowOf, Held}
 
--- The first rows of the program are the machine's.
-pub rows-of : (R : List ℕ) (T : SchemeTable) (program : Program) (rows : ℕ) {q ty : List ℕ} → Governed R (machineOf T program) → length (program .terms) ≡ 256 → Counted program →
-    rows ≤ program .termcount → ParamsNoted (take (program .paramcount) (program .params)) q ty → RowsOf R (machineOf T program) q ty (program .terms) rows
-rows-of R T program rows gov size few most noted =
+-- The arrays hold the machines of the program.
+pub held-of : (R : List ℕ) (T : SchemeTable) (program : Program) {kinds q ty : List ℕ} → Governed R (machineOf T program) → length (program .types) ≡ 64 → length (program .params) ≡ 64 → length (program .terms) ≡ 256 →
+    Counted program → 0 < program .termcount → KindsNoted (take (program .typecount) (program .types)) kinds → ParamsNoted (take (program .paramcount) (program .params)) q ty →
+    Held R (machineOf T program) kinds q ty (program .terms) (program .typecount) (program .paramcount) (program .termcount)
+held-of R T program gov typesize paramsize termsize few some kinds noted =
+    let types : length (take (program .typecount) (program .types)) ≡ program .typecount = rw (length-take (program .typecount) (program .types)) (omega (arith, few .types)) in
+    let params : length (take (program .paramcount) (program .params)) ≡ program .paramcount = rw (length-take (program .paramcount) (program .params)) (omega (arith, few .params)) in
+    let rows : length (take (program .termcount) (program .terms)) ≡ program .termcount = rw (length-take (program .termcount) (program .terms)) (omega (arith, few .terms)) in
     record {
-      governed = gov;
-      noted = noted;
-      same-term = λ i below. (
-        rw (length-take (program .termcount) (program .terms)) (omega (arith, few .terms)),
-        ap (λ (row : TermRow). row .term) (getD-take (program .termcount) (program .terms) i noTermRow (omega arith)),
-      );
+      lines =
+          record {
+            governed = gov;
+            noted = noted;
+            types = types;
+            params = params;
+            some = rw rows some;
+          };
+      noted = kinds;
+      rows = rows;
+      same-term = λ i below. ap (λ (row : TermRow). row .term) (getD-take (program .termcount) (program .terms) i noTermRow below);
+    }
+
+-- Row i of the machine that the arrays hold, in a run over so many rows.
+pub row-of : {R kinds q ty : List ℕ} {m : Machine} {terms : List TermRow} {typecount paramcount termcount rows : ℕ} (i : ℕ) → Held R m kinds q ty terms typecount paramcount termcount → i < rows → rows ≤ termcount → RowOf R m q ty i (termIn terms i)
+row-of i held below most =
+    record {
+      governed = held .lines .governed;
+      noted = held .lines .noted;
+      in-list = omega (arith, held .rows);
+      same-term = held .same-term i (omega arith);
     }
 
 -- Fewer parameters stand than there are places, and there are no more words than nodes for them.
@@ -70,27 +89,18 @@ module _ {m : Machine} (wf : WellFormed m) where
         type-node = param-nodes (parameterOf (termAt m i)) .1;
       }
 
-  pub row-ready : {R q ty : List ℕ} {terms : List TermRow} {rows : ℕ} → RowsOf R m q ty terms rows → (i : ℕ) → i < rows → RowReady q ty terms i
-  row-ready {R} {q} {ty} of i below =
-      let in-list = of .same-term i below .0 in
-      let row = row-stands i in-list in
-      let place = names-place 9 64 i (termAt m i) (omega arith) (row .stands) in
-      subst (λ (term : Term). RowStands i term (nodeNamed q term) (nodeNamed ty term)) (of .same-term i below .1)
-      (subst₂ (RowStands i (termAt m i)) (sym (of .noted .qualifier (parameterOf (termAt m i)) place)) (sym (of .noted .typerow (parameterOf (termAt m i)) place)) row)
+pub row-ready : {R q ty : List ℕ} {m : Machine} {i : ℕ} {term : Term} → RowOf R m q ty i term → RowStands i term (nodeNamed q term) (nodeNamed ty term)
+row-ready {q = q} {ty} {m} {i} row =
+    let own = row-stands (row .governed .well-formed) i (row .in-list) in
+    let place = names-place 9 64 i (termAt m i) (omega arith) (own .stands) in
+    subst (λ (t : Term). RowStands i t (nodeNamed q t) (nodeNamed ty t)) (row .same-term)
+    (subst₂ (RowStands i (termAt m i)) (sym (row .noted .qualifier (parameterOf (termAt m i)) place)) (sym (row .noted .typerow (parameterOf (termAt m i)) place)) own)
 
 -- The places of the parameters that there are hold nodes.
 pub param-places : {m : Machine} → WellFormed m → {q ty : List ℕ} → ParamsNoted (m .params) q ty → (count : ℕ) → count ≤ 64 → (p : ℕ) → p < count → (getD q p 0 < rowQualifier 0) × (getD ty p 0 < rowType 0)
 param-places wf noted count few p h =
     let nodes = param-nodes wf p in
     (omega (arith, noted .qualifier p (omega arith), nodes .0), omega (arith, noted .typerow p (omega arith), nodes .1))
-
--- As many parameters are in the machine's list.
-pub param-count : (program : Program) → length (program .params) ≡ 64 → Counted program → length (take (program .paramcount) (program .params)) ≡ program .paramcount
-param-count program size few = length-take (program .paramcount) (program .params) ∙ omega (arith, few .params)
-
--- A row below the count is in the machine's list.
-pub in-terms : (program : Program) (row : ℕ) → length (program .terms) ≡ 256 → Counted program → row < program .termcount → row < length (take (program .termcount) (program .terms))
-in-terms program row size few below = rw (length-take (program .termcount) (program .terms)) (omega (arith, few .terms))
 
 -- The rows before a failing one are typable, so it is the least.
 pub refusal-of : (m : Machine) (number row : ℕ) → row < length (m .terms) → Fails m number row → Typable (whole (ruling m)) m row → Refusal (ruling m) m number row

@@ -37,7 +37,7 @@ use Rattle.rows.specs.Steps.{Ready}
 use Rattle.setup.specs.Descriptors.{Described}
 use Rattle.setup.specs.Started.{formKind, startKind, Started}
 use Rattle.solver.specs.State.{After}
-use Rattle.solver.specs.Runs.{Governed}
+use Rattle.solver.specs.Runs.{Governed, Begun}
 use Rattle.solver.proofs.Functions.{arrow-not-int, plain-by-class}
 use Rattle.solver.proofs.Ready.{refusal-first}
 use Rattle.solver.proofs.Stops.{rule-lattice, of-words, fails-apart}
@@ -46,6 +46,11 @@ use Rattle.solver.proofs.Stops.{rule-lattice, of-words, fails-apart}
 either : {A B G : Type 0} → A ⊎ B → (A → G) → (B → G) → G
 either (inl a) f g = f a
 either (inr b) f g = g b
+
+-- The start has the ruling's greatest qualifier as every bound.
+pub begun-at : {R kids u k p b : List ℕ} {m : Machine} {top : ℕ} → top ≡ topAt R → Described m kids → Started m top (typesOf u k) (qualifiersOf p b) → Begun R m kids (typesOf u k) (qualifiersOf p b)
+begun-at {u = u} {k} {p} {b} {m} e described started =
+    record { described = described; started = subst (λ (top : ℕ). Started m top (typesOf u k) (qualifiersOf p b)) e started }
 
 -- The pairs of the lines T and P, but those of INT.
 pub record LinePairs (m : Machine) (k : List ℕ) (P : Pending) : Type 0 where
@@ -62,7 +67,7 @@ module _ {R : List ℕ} {m : Machine} (gov : Governed R m) {kids u k p b : List 
   lat = rule-lattice gov
 
   -- A node with a kind is a type row's.
-  row-kind : (x : ℕ) → x < nodes → 1 ≤ kindAt k x → (x < length (m .types)) × (kindAt k x ≡ formKind x (typeAt m x))
+  pub row-kind : (x : ℕ) → x < nodes → 1 ≤ kindAt k x → (x < length (m .types)) × (kindAt k x ≡ formKind x (typeAt m x))
   row-kind x h positive = go (ltb x (length (m .types))) refl
     where
       go : (t : Bool) → ltb x (length (m .types)) ≡ t → (x < length (m .types)) × (kindAt k x ≡ formKind x (typeAt m x))

@@ -1,43 +1,36 @@
 -- What the solver's functions answer, said by typings alone where they leave the state.
-use Prim.Native.Nat.{ℕ, _+_, _<_, _≤_}
+use Prim.Native.Nat.{ℕ, _+_, _<_}
 use mathlib.Core.List.{List}
-use mathlib.Core.Logic.{_⊎_}
 use mathlib.Core.Path.{_≡_}
 use lib.ListN.{length}
-use Rattle.scheme.specs.Rule.{Ruled}
+use Rattle.scheme.specs.Rule.{Ruled, topAt}
 use Rattle.model.specs.Machine.{Machine, termIn, termAt}
 use Rattle.model.specs.WellFormed.{WellFormed}
 use Rattle.model.specs.Typing.{Ty, Typable}
 use Rattle.model.specs.Strength.{whole}
 use Rattle.model.specs.Inference.{ruling, Cause, Refusal, GreatestTyping}
+use Rattle.model.specs.declared.Term.{Term}
 use Rattle.model.specs.declared.TermRow.{TermRow}
-use Rattle.model.specs.declared.TypeRow.{TypeRow}
-use Rattle.layout.specs.Layout.{nodes, descriptors}
-use Rattle.layout.specs.Kinds.{intKind}
-use Rattle.graph.specs.Types.{Types, typesOf, kindAt, Parts, Reads}
+use Rattle.layout.specs.Layout.{nodes}
+use Rattle.graph.specs.Types.{Types, typesOf, Parts, Reads}
 use Rattle.graph.specs.Search.{Finite}
 use Rattle.qualifiers.specs.Classes.{Qualifiers}
-use Rattle.readings.specs.Nodes.{nodeNamed}
-use Rattle.setup.specs.Passes.{ParamsNoted}
-use Rattle.rows.specs.Rows.{RowStands}
+use Rattle.setup.specs.Descriptors.{Described}
+use Rattle.setup.specs.Started.{Started}
+use Rattle.setup.specs.Passes.{ParamsNoted, KindsNoted}
+use Rattle.pending.specs.Pending.{Pending, pendingOf}
+use Rattle.pending.specs.declared.Sweep.{Sweep}
+use Rattle.pending.specs.declared.Sweep.the-variants.{Kept, Apart}
+use Rattle.pending.specs.Shapes.{Fixed}
 use Rattle.rows.specs.Steps.{Ready}
 use Rattle.report.specs.Codes.{codedWord, codedShape}
 use Rattle.report.specs.declared.Codes.{Codes}
 use Rattle.report.specs.Written.{Matches}
-use Rattle.setup.specs.Descriptors.{Written}
-use Rattle.pending.specs.Pending.{Pending, pairQualifier, pairType, linePairs, Sweeps}
-use Rattle.pending.specs.Lines.{FormPair, ParamPair}
-use Rattle.pending.specs.declared.Sweep.{Sweep}
-use Rattle.pending.specs.Shapes.{Fixed}
 use Rattle.solver.specs.State.{After}
-use Rattle.solver.specs.declared.Run.{Run}
-use Rattle.solver.specs.declared.Run.the-variants.{Whole, Least, Stopped}
+use Rattle.solver.specs.declared.Turn.{Turn}
+use Rattle.solver.specs.declared.Turn.the-variants.{Next, Whole, Least, Stopped}
 use Rattle.solver.specs.declared.Answer.{Answer}
 use Rattle.solver.specs.declared.Answer.the-variants.{Placed, Refused}
-
--- A pair of one of the first type rows or parameters.
-abbrev pub LinePair : (types : List TypeRow) (typecount : ℕ) (q ty : List ℕ) (paramcount : ℕ) → ℕ → ℕ → Type 0
-LinePair types typecount q ty paramcount s x = FormPair types typecount s x ⊎ ParamPair q ty paramcount s x
 
 -- R is the ruling of a well-formed machine.
 pub record Governed (R : List ℕ) (m : Machine) : Type 0 where
@@ -48,17 +41,19 @@ pub record Governed (R : List ℕ) (m : Machine) : Type 0 where
 abbrev pub Fails : Machine → ℕ → ℕ → Type 0
 Fails m number k = ¬ Typable (whole (ruling m)) m (k + 1) × Cause (ruling m) m (k + 1) number
 
--- A run that ends at a row: with the number there where every type is finite, and with 21 where there is no reading.
-abbrev pub Halts : Types → List ℕ → ℕ → ℕ → Run → Type 0
-Halts T kids number row Whole = ⊥
-Halts T kids number row (Least n r) = (n ≡ number) × (r ≡ row) × ((x : ℕ) → x < nodes → Finite T kids x)
-Halts T kids number row (Stopped n r) = (n ≡ 21) × (r ≡ row) × ((t : ℕ → Ty ℕ) (v : ℕ → ℕ) → Reads T kids t v → ⊥)
+-- A run that ends at a row: with the number where every type is finite, and without one where there is no reading.
+abbrev pub Halts : Types → List ℕ → ℕ → Turn → Type 0
+Halts T kids number (Next n) = ⊥
+Halts T kids number Whole = ⊥
+Halts T kids number (Least n) = (n ≡ number) × ((x : ℕ) → x < nodes → Finite T kids x)
+Halts T kids number Stopped = (t : ℕ → Ty ℕ) (v : ℕ → ℕ) → Reads T kids t v → ⊥
 
 -- The test at the end: every type is finite, and the shapes are fixed; or there is no reading.
-abbrev pub Finishes : (R kids u k k′ : List ℕ) (Q : Qualifiers) (P : Pending) (rows : ℕ) → Run → Type 0
-Finishes R kids u k k′ Q P rows Whole = ((x : ℕ) → x < nodes → Finite (typesOf u k) kids x) × Fixed R u k k′ Q P
-Finishes R kids u k k′ Q P rows (Least n r) = ⊥
-Finishes R kids u k k′ Q P rows (Stopped n r) = (n ≡ 21) × (r + 1 ≡ rows) × ((t : ℕ → Ty ℕ) (v : ℕ → ℕ) → Reads (typesOf u k) kids t v → ⊥)
+abbrev pub Finishes : (R kids u k k′ : List ℕ) (Q : Qualifiers) (P : Pending) → Turn → Type 0
+Finishes R kids u k k′ Q P (Next n) = ⊥
+Finishes R kids u k k′ Q P Whole = ((x : ℕ) → x < nodes → Finite (typesOf u k) kids x) × Fixed R u k k′ Q P
+Finishes R kids u k k′ Q P (Least n) = ⊥
+Finishes R kids u k k′ Q P Stopped = (t : ℕ → Ty ℕ) (v : ℕ → ℕ) → Reads (typesOf u k) kids t v → ⊥
 
 -- The state after all the rows asked for, with every type finite and every bound met, and the nodes of the rows after them as they were. It had the
 -- kinds k before the shapes were fixed.
@@ -76,40 +71,55 @@ pub record Completed (R : List ℕ) (m : Machine) (T : Types) (Q : Qualifiers) (
   pub parts : Parts kids
   pub ended : Ended R m kids kinds pending T Q rows
 
--- A run over the first rows went through, or stopped at the least row that leaves no typing, or at some such row.
-abbrev pub RunAnswers : (R : List ℕ) (m : Machine) (T : Types) (Q : Qualifiers) (rows : ℕ) → Run → Type 0
-RunAnswers R m T Q rows Whole = Typable (whole (ruling m)) m rows × Completed R m T Q rows
-RunAnswers R m T Q rows (Least number row) = (row < rows) × Refusal (ruling m) m number row
-RunAnswers R m T Q rows (Stopped number row) = (row < rows) × Fails m number row
-
--- The arrays hold the nodes of the machine's parameters, and its first rows.
-pub record RowsOf (R : List ℕ) (m : Machine) (q ty : List ℕ) (terms : List TermRow) (rows : ℕ) : Type 0 where
+-- Row i of the machine is the term, and the arrays hold the nodes of its parameters.
+pub record RowOf (R : List ℕ) (m : Machine) (q ty : List ℕ) (i : ℕ) (term : Term) : Type 0 where
   pub governed : Governed R m
   pub noted : ParamsNoted (m .params) q ty
-  pub same-term : (i : ℕ) → i < rows → (i < length (m .terms)) × (termAt m i ≡ termIn terms i)
+  pub in-list : i < length (m .terms)
+  pub same-term : termAt m i ≡ term
 
--- What each of the first rows asks of its nodes.
-abbrev pub RowReady : List ℕ → List ℕ → List TermRow → ℕ → Type 0
-RowReady q ty terms i = RowStands i (termIn terms i) (nodeNamed q (termIn terms i)) (nodeNamed ty (termIn terms i))
+-- After row i's turn in a run over so many rows: the state is the one after it, and there are more; or all are taken; or it is the least row that
+-- leaves no typing, or some such row.
+abbrev pub TurnAnswers : (R : List ℕ) (m : Machine) (kids : List ℕ) (T : Types) (Q : Qualifiers) (left right crowded : List ℕ) (i rows : ℕ) → Turn → Type 0
+TurnAnswers R m kids T Q left right crowded i rows (Next n) =
+    (i + 1 < rows) × After R m kids T Q (pendingOf left right crowded n) (i + 1) × Ready R (i + 1) kids T Q (pendingOf left right crowded n)
+TurnAnswers R m kids T Q left right crowded i rows Whole = Typable (whole (ruling m)) m rows × Completed R m T Q rows
+TurnAnswers R m kids T Q left right crowded i rows (Least number) = Refusal (ruling m) m number i
+TurnAnswers R m kids T Q left right crowded i rows Stopped = Fails m 21 i
 
--- The descriptors are still those of every machine that the arrays hold.
-abbrev pub StillWritten : (R q ty : List ℕ) (terms : List TermRow) (rows : ℕ) (kids kids′ : List ℕ) → Type 0
-StillWritten R q ty terms rows kids kids′ =
-    (m : Machine) → RowsOf R m q ty terms rows → ((d : ℕ) → d < descriptors → Written m kids d) → (d : ℕ) → d < descriptors → Written m kids′ d
+-- The descriptors are still those of every machine that has the row.
+abbrev pub StillDescribed : (R q ty : List ℕ) (i : ℕ) (term : Term) (kids kids′ : List ℕ) → Type 0
+StillDescribed R q ty i term kids kids′ = (m : Machine) → RowOf R m q ty i term → Described m kids → Described m kids′
 
--- All pairs of the lines but those of INT were gathered, and looked through.
-pub record LinesTaken (R : List ℕ) (types : List TypeRow) (typecount : ℕ) (q ty : List ℕ) (paramcount : ℕ) (T : Types) (Q Q′ : Qualifiers) (left right crowded : List ℕ) (r : Sweep) : Type 0 where
-  pub gathered : Pending
-  pub few : gathered .count ≤ linePairs
-  pub sound : (j : ℕ) → j < gathered .count → LinePair types typecount q ty paramcount (pairQualifier gathered j) (pairType gathered j)
-  pub complete : (s x : ℕ) → LinePair types typecount q ty paramcount s x →
-      ((j : ℕ) × (j < gathered .count) × (pairQualifier gathered j ≡ s) × (pairType gathered j ≡ x)) ⊎ (kindAt (T .kinds) x ≡ intKind)
-  pub sweeps : Sweeps R T Q Q′ gathered left right crowded r
+-- The machine has so many type rows and parameters, whose nodes the arrays hold, and a row.
+pub record LinesOf (R : List ℕ) (m : Machine) (q ty : List ℕ) (typecount paramcount : ℕ) : Type 0 where
+  pub governed : Governed R m
+  pub noted : ParamsNoted (m .params) q ty
+  pub types : length (m .types) ≡ typecount
+  pub params : length (m .params) ≡ paramcount
+  pub some : 0 < length (m .terms)
 
--- A run from a state that stands for no rows yet, for every machine that the arrays hold.
-abbrev pub RunFrom : (R q ty : List ℕ) (terms : List TermRow) (kids₀ : List ℕ) (T₀ : Types) (Q₀ : Qualifiers) (P₀ : Pending) (T : Types) (Q : Qualifiers) (rows : ℕ) → Run → Type 0
-RunFrom R q ty terms kids₀ T₀ Q₀ P₀ T Q rows r =
-    (m : Machine) → RowsOf R m q ty terms rows → After R m kids₀ T₀ Q₀ P₀ 0 → RunAnswers R m T Q rows r
+-- The state before the lines.
+pub record Begun (R : List ℕ) (m : Machine) (kids : List ℕ) (T : Types) (Q : Qualifiers) : Type 0 where
+  pub described : Described m kids
+  pub started : Started m (topAt R) T Q
+
+-- After the lines: the state stands for no row yet; or they alone have no typing.
+abbrev pub Lined : (R : List ℕ) (m : Machine) (kids : List ℕ) (T : Types) (Q : Qualifiers) (left right crowded : List ℕ) → Sweep → Type 0
+Lined R m kids T Q left right crowded (Kept n) = After R m kids T Q (pendingOf left right crowded n) 0 × Ready R 0 kids T Q (pendingOf left right crowded n)
+Lined R m kids T Q left right crowded Apart = Refusal (ruling m) m 22 0
+
+-- The arrays hold all of the machine: its lines, the kinds of its type rows, and its rows.
+pub record Held (R : List ℕ) (m : Machine) (kinds q ty : List ℕ) (terms : List TermRow) (typecount paramcount termcount : ℕ) : Type 0 where
+  pub lines : LinesOf R m q ty typecount paramcount
+  pub noted : KindsNoted (m .types) kinds
+  pub rows : length (m .terms) ≡ termcount
+  pub same-term : (i : ℕ) → i < termcount → termAt m i ≡ termIn terms i
+
+-- All rows are taken, or the least one that leaves no typing is told.
+abbrev pub RowsTaken : (R : List ℕ) (m : Machine) (T : Types) (Q : Qualifiers) (termcount : ℕ) → Answer → Type 0
+RowsTaken R m T Q termcount Placed = Completed R m T Q termcount
+RowsTaken R m T Q termcount (Refused number row) = Refusal (ruling m) m number row
 
 -- The program is placed, with its words and shapes in the codes; or refused at the least row.
 abbrev pub Solves : Machine → Codes → Answer → Type 0

@@ -1,39 +1,37 @@
 -- `solver::take_lines`: the pairs of the type rows, then those of the parameters, looked through once.
 use native.Mathlib.Omega.{arith}
-use lib.ListN.{length-replicate}
-use borrow.Author.Needs.{needs}
-use Rattle.layout.specs.Layout.{nodes}
-use Prim.Native.Nat.{ℕ}
-use Rattle.solver.proofs.Lines.{line-sound, line-pairs, lines-taken}
+use Rattle.solver.proofs.Start.{types-start, classes-start}
+use Rattle.solver.proofs.Lines.{line-pairs, lined}
+use Rattle.solver.proofs.Ready.{param-places}
 use Rattle.solver.proofs.take_lines.Statement.{statement}
 use Rattle.solver.proofs.take_lines.Tie as tie
 
 add-types-requires : tie.Need-add-types-requires
-add-types-requires c κs = search needs
+add-types-requires c κs =
+    let some = c .before .before .pre .0 in
+    (some .2 .described .parts, omega (arith, some .1 .types, some .1 .governed .well-formed .types-fit))
 
 add-params-requires : tie.Need-add-params-requires
 add-params-requires c κs =
     let types = c .before .before in
-    let pre = types .before .before .before .before .pre in
-    (pre .1 .1 .1, omega (arith, types .add-types .ensures .1, pre .1 .1 .0), pre .1 .1 .3)
+    let some = types .before .before .before .pre .0 in
+    let wf = some .1 .governed .well-formed in
+    (omega (arith, some .1 .params, wf .params-fit), omega (arith, types .add-types .ensures .1, some .1 .types, wf .types-fit), param-places wf (some .1 .noted) _ (omega (arith, some .1 .params, wf .params-fit)))
 
 look-through-requires : tie.Need-look-through-requires
 look-through-requires c κs =
     let params = c .before .before .before .before .before in
     let types = params .before .before .before in
-    let pre = types .before .before .before .before .pre in
-    let first = types .add-types .ensures in
-    let second = params .add-params .ensures in
-    (pre .0, (pre .1 .0, (line-pairs (pre .1 .1 .0) (pre .1 .1 .2) (pre .1 .1 .3) (omega (arith, first .1, second .1, pre .1 .1 .0, pre .1 .1 .1)) (line-sound first second), length-replicate {A = ℕ} nodes 0)))
+    let pre = types .before .before .before .pre in
+    let of = pre .0 .1 in
+    let begun = pre .0 .2 in
+    (classes-start (of .governed) (begun .described) (begun .started), (types-start (of .governed) (begun .described) (begun .started), (line-pairs (types .add-types .ensures) (params .add-params .ensures) of begun, pre .1)))
 
 returns : tie.Need-returns
-returns c =
+returns c m of begun =
     let params = c .before .before .before .before .before .before in
     let types = params .before .before .before in
-    let pre = types .before .before .before .before .pre in
-    let first = types .add-types .ensures in
-    let second = params .add-params .ensures in
-    lines-taken _ (c .look-through .result) (pre .1 .1 .0) (pre .1 .1 .1) first second (c .look-through .ensures)
+    lined _ _ _ _ _ _ (c .look-through .result) (types .add-types .ensures) (params .add-params .ensures) of begun (c .look-through .ensures)
 
 pub take-lines-spec : {M : Type 1} → statement M
 take-lines-spec =

@@ -1,9 +1,9 @@
--- `pending::lines::add`: INT is left out.
+-- `pending::gather::add`: INT is left out.
 use mathlib.Core.Path.{refl}
 use borrow.Author.Needs.{needs}
 use Rattle.pending.specs.Lines.{noted, left-out}
-use Rattle.pending.proofs.lines.add.Statement.{statement}
-use Rattle.pending.proofs.lines.add.Tie as tie
+use Rattle.pending.proofs.gather.add.Statement.{statement}
+use Rattle.pending.proofs.gather.add.Tie as tie
 
 mul-if1 : tie.Need-mul-if1
 mul-if1 c = search needs

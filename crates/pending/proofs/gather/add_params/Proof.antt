@@ -1,12 +1,12 @@
--- `pending::lines::add_params`: the pairs of the parameters below p are added.
+-- `pending::gather::add_params`: the pairs of the parameters below p are added.
 use Prim.Native.Nat.{_-_, _≤_}
 use native.Mathlib.Omega.{arith}
 use mathlib.Core.Path.{_≡_}
 use Rattle.forest.specs.Pairs.{notesOf}
 use Rattle.pending.specs.Lines.{ParamPair, Adds}
 use Rattle.pending.proofs.Gathering.{params-none, params-more}
-use Rattle.pending.proofs.lines.add_params.Statement.{statement}
-use Rattle.pending.proofs.lines.add_params.Tie as tie
+use Rattle.pending.proofs.gather.add_params.Statement.{statement}
+use Rattle.pending.proofs.gather.add_params.Tie as tie
 
 abbrev Inv-loop : tie.InvT-loop
 Inv-loop qualifiers typerows count kind pairqualifier₀ pairtype₀ n next₀ p₀ pairqualifier pairtype next p =

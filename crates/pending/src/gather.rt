@@ -1,17 +1,15 @@
 // The pairs of the lines T and P.
+use layout::FIRST_ARROW;
 use layout::INT;
 use layout::NODES;
 use layout::PAIR_PLACES;
+use layout::PART_PLACES;
 use model::PARAMS;
-use model::TYPES;
-use model::TypeForm;
-use model::TypeRow;
 ghost use Prim.Native.Nat.{ℕ, _+_, _*_, _<_, _≤_};
 ghost use lib.ListN.{getD};
-ghost use Rattle.layout.specs.Layout.{nodes, pairPlaces, rowType, rowQualifier};
-ghost use Rattle.model.specs.WellFormed.{TypeStands};
+ghost use Rattle.layout.specs.Layout.{nodes, descriptors, pairPlaces, rowType, rowQualifier};
 ghost use Rattle.forest.specs.Pairs.{notesOf};
-ghost use Rattle.setup.specs.Passes.{FormsStand};
+ghost use Rattle.graph.specs.Types.{Parts};
 ghost use Rattle.pending.specs.Lines.{FormPair, ParamPair, Gathered, Earlier, Added, PairOf, Adds};
 
 // Adds a pair behind the first n, unless its type is INT.
@@ -32,44 +30,44 @@ fn add(
     unification::note(pairqualifier, pairtype, n, q, x)
 }
 
-// Adds the two pairs of a type row that is an ARROW.
+// Adds the two pairs of a type row that is an ARROW: then its kind is one, and its descriptor has them.
 fn add_form(
-    form: TypeForm,
+    x: usize,
     kind: &[u16; NODES],
+    kids: &[u16; PART_PLACES],
     pairqualifier: &mut [u16; PAIR_PLACES],
     pairtype: &mut [u16; PAIR_PLACES],
     n: usize,
 ) -> usize
-    requires { ⌜ (n + 2 ≤ pairPlaces) × TypeStands 9 64 form ⌝ }
-    ensures { λ r. ⌜ Adds (PairOf form) (now (kind .entry)) (notesOf (now (pairqualifier .entry)) (now (pairtype .entry))) (notesOf (now (pairqualifier .exit)) (now (pairtype .exit))) n 2 r ⌝ }
+    requires { ⌜ Parts (now kids) ⌝ ∗ ⌜ (n + 2 ≤ pairPlaces) × (x < descriptors) ⌝ }
+    ensures { λ r. ⌜ Adds (PairOf (now (kind .entry)) (now (kids .entry)) x) (now (kind .entry)) (notesOf (now (pairqualifier .entry)) (now (pairtype .entry))) (notesOf (now (pairqualifier .exit)) (now (pairtype .exit))) n 2 r ⌝ }
 {
-    match form {
-        TypeForm::Int => n,
-        TypeForm::Any => n,
-        TypeForm::Arrow(q, a, r, b) => {
-            let one = add(kind, pairqualifier, pairtype, n, q as usize, a as usize);
-            add(kind, pairqualifier, pairtype, one, r as usize, b as usize)
-        }
+    if kind[x] < FIRST_ARROW {
+        return n;
     }
+    let q = graph::part(kids, x, 0);
+    let a = graph::part(kids, x, 1);
+    let one = add(kind, pairqualifier, pairtype, n, q, a);
+    let r = graph::part(kids, x, 2);
+    let b = graph::part(kids, x, 3);
+    add(kind, pairqualifier, pairtype, one, r, b)
 }
 
 // Adds the pairs of the first type rows, also of one that nothing names.
 pub fn add_types(
-    types: [TypeRow; TYPES],
     count: usize,
     kind: &[u16; NODES],
+    kids: &[u16; PART_PLACES],
     pairqualifier: &mut [u16; PAIR_PLACES],
     pairtype: &mut [u16; PAIR_PLACES],
 ) -> usize
-    requires { ⌜ (count ≤ 64) × FormsStand types count ⌝ }
-    ensures { λ r. ⌜ Gathered (FormPair types count) (now (kind .entry)) (notesOf (now (pairqualifier .exit)) (now (pairtype .exit))) 0 r × (r ≤ 2 * count) ⌝ }
+    requires { ⌜ Parts (now kids) ⌝ ∗ ⌜ count ≤ 64 ⌝ }
+    ensures { λ r. ⌜ Gathered (FormPair (now (kind .entry)) (now (kids .entry)) count) (now (kind .entry)) (notesOf (now (pairqualifier .exit)) (now (pairtype .exit))) 0 r × (r ≤ 2 * count) ⌝ }
 {
     let mut n: usize = 0;
     let mut x: usize = 0;
     while x < count {
-        let row = types[x];
-        let form = row.form;
-        n = add_form(form, kind, pairqualifier, pairtype, n);
+        n = add_form(x, kind, kids, pairqualifier, pairtype, n);
         x += 1;
     }
     n
