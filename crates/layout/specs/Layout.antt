@@ -28,3 +28,7 @@ partPlaces = 1280
 -- The pairs that one row can note: two of its own, and two for each time that two classes of types are made one.
 abbrev pub pairPlaces : ℕ
 pairPlaces = 660
+
+-- The pairs that can be pending: two of each type row, and one of each parameter and each term row.
+abbrev pub pendingPlaces : ℕ
+pendingPlaces = 448

@@ -3,6 +3,7 @@ ghost use mathlib.Core.Path.{_≡_};
 ghost use Prim.Native.Nat.{ℕ, _<_, _≤_};
 ghost use Rattle.layout.specs.Layout.{rowType, rowQualifier, descriptors};
 ghost use Rattle.layout.specs.Kinds.{arrowKind};
+use model::PARAMS;
 use model::TERMS;
 use model::TYPES;
 use model::VARIABLES;
@@ -25,6 +26,9 @@ pub const PART_PLACES: usize = 4 * DESCRIPTORS;
 
 // The pairs that one row can note: two of its own, and two for each time that two classes of types are made one.
 pub const PAIR_PLACES: usize = 2 * NODES + 2;
+
+// The pairs that can be pending: two of each type row, and one of each parameter and each term row.
+pub const PENDING_PLACES: usize = 2 * TYPES + PARAMS + TERMS;
 
 // The kinds of a type node: nothing is known, INT, and from the third on the arrows of the descriptors.
 pub const UNKNOWN: u16 = 0;

@@ -8,11 +8,11 @@ use mathlib.Core.Logic.{_⊎_, inl, inr}
 use mathlib.Core.Path.{_≡_, refl, sym, subst, _∙_}
 use lib.ListN.{length, getD, set, length-set}
 use lib.Seq.{getD-set-same, getD-set-other}
-use Rattle.layout.specs.Layout.{nodes, rowType, qualifiersFrom}
+use Rattle.layout.specs.Layout.{nodes, rowType, qualifiersFrom, pendingPlaces}
 use Rattle.layout.specs.Kinds as Kinds
 use Rattle.layout.specs.Kinds.{firstArrow}
 use Rattle.forest.specs.Forest.{Found}
-use Rattle.forest.specs.Pairs.{Pairs}
+use Rattle.forest.specs.Pairs.{PairsIn}
 use Rattle.forest.proofs.Links.{by-eq}
 use Rattle.graph.specs.Types.{Types, kindAt}
 use Rattle.graph.specs.Steady.{ArrowClass, UnknownClass}
@@ -83,7 +83,7 @@ module _ {R : List ℕ} {T : Types} {Q Q₁ : Qualifiers} {P P₁ : Pending} {j 
   found-read : {r : ℕ} → Found (T .parents) (pairType P₁ j) r → Found (T .parents) (pairType P j) r
   found-read {r} found = subst (λ (y : ℕ). Found (T .parents) y r) (read .1) found
 
-  pub pair-nodes : Pairs (P .pairs) (P .count) → (pairQualifier P₁ j < nodes) × (pairType P₁ j < nodes)
+  pub pair-nodes : PairsIn pendingPlaces (P .pairs) (P .count) → (pairQualifier P₁ j < nodes) × (pairType P₁ j < nodes)
   pair-nodes pairs = (omega (arith, read .0, pairs .left-node j less), omega (arith, read .1, pairs .right-node j less))
 
   -- What the first j pairs and pair j ask is what the first j + 1 ask.

@@ -2,12 +2,12 @@
 use layout::FIRST_ARROW;
 use layout::INT;
 use layout::NODES;
-use layout::PAIR_PLACES;
 use layout::PART_PLACES;
+use layout::PENDING_PLACES;
 use model::PARAMS;
 ghost use Prim.Native.Nat.{ℕ, _+_, _*_, _<_, _≤_};
 ghost use lib.ListN.{getD};
-ghost use Rattle.layout.specs.Layout.{nodes, descriptors, pairPlaces, rowType, rowQualifier};
+ghost use Rattle.layout.specs.Layout.{nodes, descriptors, pendingPlaces, rowType, rowQualifier};
 ghost use Rattle.forest.specs.Pairs.{notesOf};
 ghost use Rattle.graph.specs.Types.{Parts};
 ghost use Rattle.pending.specs.Lines.{FormPair, ParamPair, Gathered, Earlier, Added, PairOf, Adds};
@@ -15,13 +15,13 @@ ghost use Rattle.pending.specs.Lines.{FormPair, ParamPair, Gathered, Ear
 // Adds a pair behind the first n, unless its type is INT.
 fn add(
     kind: &[u16; NODES],
-    pairqualifier: &mut [u16; PAIR_PLACES],
-    pairtype: &mut [u16; PAIR_PLACES],
+    pairqualifier: &mut [u16; PENDING_PLACES],
+    pairtype: &mut [u16; PENDING_PLACES],
     n: usize,
     q: usize,
     x: usize,
 ) -> usize
-    requires { ⌜ (n < pairPlaces) × (q < nodes) × (x < nodes) ⌝ }
+    requires { ⌜ (n < pendingPlaces) × (q < nodes) × (x < nodes) ⌝ }
     ensures { λ r. ⌜ Added (now (kind .entry)) (notesOf (now (pairqualifier .entry)) (now (pairtype .entry))) (notesOf (now (pairqualifier .exit)) (now (pairtype .exit))) n q x r ⌝ }
 {
     if kind[x] == INT {
@@ -35,11 +35,11 @@ fn add_form(
     x: usize,
     kind: &[u16; NODES],
     kids: &[u16; PART_PLACES],
-    pairqualifier: &mut [u16; PAIR_PLACES],
-    pairtype: &mut [u16; PAIR_PLACES],
+    pairqualifier: &mut [u16; PENDING_PLACES],
+    pairtype: &mut [u16; PENDING_PLACES],
     n: usize,
 ) -> usize
-    requires { ⌜ Parts (now kids) ⌝ ∗ ⌜ (n + 2 ≤ pairPlaces) × (x < descriptors) ⌝ }
+    requires { ⌜ Parts (now kids) ⌝ ∗ ⌜ (n + 2 ≤ pendingPlaces) × (x < descriptors) ⌝ }
     ensures { λ r. ⌜ Adds (PairOf (now (kind .entry)) (now (kids .entry)) x) (now (kind .entry)) (notesOf (now (pairqualifier .entry)) (now (pairtype .entry))) (notesOf (now (pairqualifier .exit)) (now (pairtype .exit))) n 2 r ⌝ }
 {
     if kind[x] < FIRST_ARROW {
@@ -58,8 +58,8 @@ pub fn add_types(
     count: usize,
     kind: &[u16; NODES],
     kids: &[u16; PART_PLACES],
-    pairqualifier: &mut [u16; PAIR_PLACES],
-    pairtype: &mut [u16; PAIR_PLACES],
+    pairqualifier: &mut [u16; PENDING_PLACES],
+    pairtype: &mut [u16; PENDING_PLACES],
 ) -> usize
     requires { ⌜ Parts (now kids) ⌝ ∗ ⌜ count ≤ 64 ⌝ }
     ensures { λ r. ⌜ Gathered (FormPair (now (kind .entry)) (now (kids .entry)) count) (now (kind .entry)) (notesOf (now (pairqualifier .exit)) (now (pairtype .exit))) 0 r × (r ≤ 2 * count) ⌝ }
@@ -79,8 +79,8 @@ pub fn add_params(
     typerows: &[u16; PARAMS],
     count: usize,
     kind: &[u16; NODES],
-    pairqualifier: &mut [u16; PAIR_PLACES],
-    pairtype: &mut [u16; PAIR_PLACES],
+    pairqualifier: &mut [u16; PENDING_PLACES],
+    pairtype: &mut [u16; PENDING_PLACES],
     n: usize,
 ) -> usize
     requires { ⌜ (count ≤ 64) × (n ≤ 128) × ((p : ℕ) → p < count → (getD (now qualifiers) p 0 < rowQualifier 0) × (getD (now typerows) p 0 < rowType 0)) ⌝ }

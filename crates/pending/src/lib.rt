@@ -4,15 +4,15 @@ pub mod shapes;
 
 use layout::FIRST_ARROW;
 use layout::NODES;
-use layout::PAIR_PLACES;
+use layout::PENDING_PLACES;
 use layout::UNKNOWN;
 use scheme::RULE;
 ghost use mathlib.Core.Logic.{_⊎_};
 ghost use mathlib.Core.Path.{_≡_};
 ghost use Prim.Native.Nat.{_<_, _≤_};
 ghost use lib.ListN.{length, set};
-ghost use Rattle.layout.specs.Layout.{nodes, rowType, qualifiersFrom};
-ghost use Rattle.forest.specs.Pairs.{Pairs, notesOf};
+ghost use Rattle.layout.specs.Layout.{nodes, rowType, qualifiersFrom, pendingPlaces};
+ghost use Rattle.forest.specs.Pairs.{PairsIn, notesOf};
 ghost use Rattle.graph.specs.Types.{TypeClasses, typesOf};
 ghost use Rattle.qualifiers.specs.Classes.{Classes, qualifiersOf};
 ghost use Rattle.pending.specs.Pending.{pendingOf, Sweeps};
@@ -45,14 +45,14 @@ pub fn look_through(
     bound: &mut [u8; NODES],
     typeparent: &[u16; NODES],
     kind: &[u16; NODES],
-    pairqualifier: &mut [u16; PAIR_PLACES],
-    pairtype: &mut [u16; PAIR_PLACES],
+    pairqualifier: &mut [u16; PENDING_PLACES],
+    pairtype: &mut [u16; PENDING_PLACES],
     crowded: &mut [u8; NODES],
     n: usize,
 ) -> Sweep
     requires { ⌜ Classes (now rule) (qualifiersOf (now qualifierparent) (now bound)) ⌝
         ∗ ⌜ TypeClasses (typesOf (now typeparent) (now kind)) ⌝
-        ∗ ⌜ Pairs (notesOf (now pairqualifier) (now pairtype)) n ⌝
+        ∗ ⌜ PairsIn pendingPlaces (notesOf (now pairqualifier) (now pairtype)) n ⌝
         ∗ ⌜ length (now crowded) ≡ nodes ⌝ }
     ensures { λ r. ⌜ Sweeps (now (rule .entry)) (typesOf (now (typeparent .entry)) (now (kind .entry)))
         (qualifiersOf (now (qualifierparent .entry)) (now (bound .entry))) (qualifiersOf (now (qualifierparent .exit)) (now (bound .exit)))

@@ -1,14 +1,14 @@
 // The end of a run: an unknown type with which a scheme stands can be no arrow.
 use layout::INT;
 use layout::NODES;
-use layout::PAIR_PLACES;
+use layout::PENDING_PLACES;
 use layout::UNKNOWN;
 use scheme::RULE;
 ghost use mathlib.Core.List.{List};
 ghost use Prim.Native.Nat.{ℕ, _<_};
-ghost use Rattle.layout.specs.Layout.{nodes};
+ghost use Rattle.layout.specs.Layout.{nodes, pendingPlaces};
 ghost use Rattle.forest.specs.Forest.{Forest};
-ghost use Rattle.forest.specs.Pairs.{Pairs, notesOf};
+ghost use Rattle.forest.specs.Pairs.{PairsIn, notesOf};
 ghost use Rattle.graph.specs.Types.{TypeClasses, typesOf};
 ghost use Rattle.qualifiers.specs.Classes.{Classes, qualifiersOf};
 ghost use Rattle.pending.specs.Pending.{pendingOf};
@@ -47,13 +47,13 @@ pub fn fix(
     bound: &[u8; NODES],
     typeparent: &[u16; NODES],
     kind: &mut [u16; NODES],
-    pairqualifier: &[u16; PAIR_PLACES],
-    pairtype: &[u16; PAIR_PLACES],
+    pairqualifier: &[u16; PENDING_PLACES],
+    pairtype: &[u16; PENDING_PLACES],
     n: usize,
 )
     requires { ⌜ Classes (now rule) (qualifiersOf (now qualifierparent) (now bound)) ⌝
         ∗ ⌜ TypeClasses (typesOf (now typeparent) (now kind)) ⌝
-        ∗ ⌜ Pairs (notesOf (now pairqualifier) (now pairtype)) n ⌝ }
+        ∗ ⌜ PairsIn pendingPlaces (notesOf (now pairqualifier) (now pairtype)) n ⌝ }
     ensures { λ _. ⌜ ((crowded : List ℕ) → Fixed (now (rule .entry)) (now (typeparent .entry)) (now (kind .entry)) (now (kind .exit)) (qualifiersOf (now (qualifierparent .entry)) (now (bound .entry)))
         (pendingOf (now (pairqualifier .entry)) (now (pairtype .entry)) crowded n)) ⌝ }
 {

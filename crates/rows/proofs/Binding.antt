@@ -10,10 +10,10 @@ use lib.Dec.{ltb}
 use lib.ListN.{length, getD, set}
 use lib.Seq.{set-set, set-getD, getD-set-same, getD-set-other}
 use Rattle.layout.specs.Kinds.{firstArrow, arrowKind}
-use Rattle.layout.specs.Layout.{nodes, pairPlaces, rowType, rowQualifier, qualifiersFrom}
+use Rattle.layout.specs.Layout.{nodes, pendingPlaces, rowType, rowQualifier, qualifiersFrom}
 use Rattle.model.specs.Typing.{Ty}
 use Rattle.forest.specs.Forest.{up, Linked, Found}
-use Rattle.forest.specs.Pairs.{Pairs, notesOf}
+use Rattle.forest.specs.Pairs.{PairsIn, notesOf}
 use Rattle.forest.proofs.Links.{by-eq}
 use Rattle.graph.specs.Types.{Types, typesOf, kindAt, TypeClasses, Reads, Equation, NodeArrow}
 use Rattle.graph.specs.Unused.{Unused}
@@ -117,7 +117,7 @@ module _ (R kids u k p b pairleft pairright crowded : List ℕ) (n i a r : ℕ) 
       }
 
   module _ (bound : Bound kids u k k′ r (rowType i) true) where
-    pub plain-ready : TypeClasses (typesOf u k′) × (Pairs (notesOf pairleft pairright) n × ((length crowded ≡ nodes) × (r < rowType 256)))
+    pub plain-ready : TypeClasses (typesOf u k′) × (PairsIn pendingPlaces (notesOf pairleft pairright) n × ((length crowded ≡ nodes) × (r < rowType 256)))
     plain-ready = (opened bound .reduced .classes, (held-pairs (omega arith) (ready .watched .held), (ready .watched .held .marks, omega (arith, stands .2))))
 
     -- A row that is a function is PLAIN.
@@ -169,7 +169,7 @@ module _ (R kids u k p b pairleft pairright crowded : List ℕ) (n i a r : ℕ) 
 
       module _ {n₁ : ℕ} (made : MadePlain R (typesOf u k′) quals₀ (qualifiersOf p′ b′) pairs₀ left right crowded′ r (sweep.Kept n₁)) where
         -- There is room for the row's pair, and the bounds can be tested.
-        pub note-ready : (n₁ < pairPlaces) × (rowQualifier i < nodes) × (rowType i < nodes)
+        pub note-ready : (n₁ < pendingPlaces) × (rowQualifier i < nodes) × (rowType i < nodes)
         note-ready = (omega (arith, cleared made .watched .held .few), omega arith, omega arith)
 
         pub bind-classes : Classes R (qualifiersOf p′ b′)

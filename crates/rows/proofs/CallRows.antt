@@ -5,9 +5,9 @@ use mathlib.Core.Bool.{Bool, true, false}
 use mathlib.Core.List.{List}
 use mathlib.Core.Path.{_≡_, refl, sym, subst, _∙_}
 use lib.ListN.{length}
-use Rattle.layout.specs.Layout.{nodes, rowType, rowQualifier, qualifiersFrom}
+use Rattle.layout.specs.Layout.{nodes, rowType, rowQualifier, qualifiersFrom, pendingPlaces}
 use Rattle.model.specs.Typing.{Ty}
-use Rattle.forest.specs.Pairs.{Pairs, PairsBelow, notesOf}
+use Rattle.forest.specs.Pairs.{PairsIn, PairsBelow, notesOf}
 use Rattle.graph.specs.Types.{typesOf, kindAt, argument, result, resultQualifier, TypeClasses, Joined, Equation}
 use Rattle.graph.specs.Unused.{Unused}
 use Rattle.graph.specs.Steady.{Steady, Calm, RootOfEither}
@@ -96,7 +96,7 @@ module _ (R kids u k p b pairleft pairright crowded : List ℕ) (n i a d : ℕ) 
               }
 
           -- The pairs can be looked through.
-          pub look-ready : TypeClasses (typesOf u′ k′) × (Pairs (notesOf pairleft pairright) n × (length crowded₁ ≡ nodes))
+          pub look-ready : TypeClasses (typesOf u′ k′) × (PairsIn pendingPlaces (notesOf pairleft pairright) n × (length crowded₁ ≡ nodes))
           look-ready = (noted .classes, (held-pairs (omega arith) held, held .marks))
 
           module _ {p₂ b₂ left″ right″ crowded₂ : List ℕ} where

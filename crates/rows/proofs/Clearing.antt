@@ -7,12 +7,12 @@ use mathlib.Core.Logic.{_⊎_, inl, inr, ⊎-elim}
 use mathlib.Core.Path.{_≡_, refl, sym, ap, subst, _∙_}
 use lib.ListN.{getD}
 use Rattle.scheme.specs.Rule.{wordsAt}
-use Rattle.layout.specs.Layout.{nodes, rowType, rowQualifier, qualifiersFrom}
+use Rattle.layout.specs.Layout.{nodes, rowType, rowQualifier, qualifiersFrom, pendingPlaces}
 use Rattle.layout.specs.Kinds as Kinds
 use Rattle.layout.specs.Readings.{Constant}
 use Rattle.model.specs.Typing.{Ty}
 use Rattle.forest.specs.Forest.{up, Linked, Found}
-use Rattle.forest.specs.Pairs.{Pairs, notesOf}
+use Rattle.forest.specs.Pairs.{PairsIn, notesOf}
 use Rattle.forest.proofs.Links.{by-eq, root-reaches}
 use Rattle.forest.proofs.Roots.{found-same}
 use Rattle.graph.specs.Types.{Types, typesOf, kindAt, Reads, Equation}
@@ -26,7 +26,7 @@ use Rattle.pending.specs.Pending.{Pending, pendingOf, pairQualifier, pairType, 
 use Rattle.rows.specs.Steps.{Extended, Parted, Carried, PartsPlain, PlainAtRow}
 
 -- The pairs are of nodes.
-pub held-pairs : {left right crowded : List ℕ} {n i : ℕ} → i ≤ 256 → Held i (pendingOf left right crowded n) → Pairs (notesOf left right) n
+pub held-pairs : {left right crowded : List ℕ} {n i : ℕ} → i ≤ 256 → Held i (pendingOf left right crowded n) → PairsIn pendingPlaces (notesOf left right) n
 held-pairs few held =
     record {
       fits = omega (arith, held .few);

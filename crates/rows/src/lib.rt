@@ -4,6 +4,7 @@ use layout::INT;
 use layout::NODES;
 use layout::PAIR_PLACES;
 use layout::PART_PLACES;
+use layout::PENDING_PLACES;
 use layout::UNKNOWN;
 use model::PARAMS;
 use model::Term;
@@ -12,8 +13,8 @@ use scheme::RULE;
 use unification::Joining;
 ghost use mathlib.Core.List.{List};
 ghost use Prim.Native.Nat.{ℕ, _+_, _<_};
-ghost use Rattle.forest.specs.Pairs.{Pairs, notesOf};
-ghost use Rattle.layout.specs.Layout.{rowType, rowQualifier, nodes};
+ghost use Rattle.forest.specs.Pairs.{PairsIn, notesOf};
+ghost use Rattle.layout.specs.Layout.{rowType, rowQualifier, nodes, pendingPlaces};
 ghost use Rattle.model.specs.declared.Term.the-variants.{App, Op};
 ghost use Rattle.forest.specs.Forest.{Forest};
 ghost use lib.ListN.{length};
@@ -248,15 +249,15 @@ fn look_if(
     bound: &mut [u8; NODES],
     typeparent: &[u16; NODES],
     kind: &[u16; NODES],
-    pairqualifier: &mut [u16; PAIR_PLACES],
-    pairtype: &mut [u16; PAIR_PLACES],
+    pairqualifier: &mut [u16; PENDING_PLACES],
+    pairtype: &mut [u16; PENDING_PLACES],
     crowded: &mut [u8; NODES],
     n: usize,
     closes: bool,
 ) -> Sweep
     requires { ⌜ Classes (now rule) (qualifiersOf (now qualifierparent) (now bound)) ⌝
         ∗ ⌜ TypeClasses (typesOf (now typeparent) (now kind)) ⌝
-        ∗ ⌜ Pairs (notesOf (now pairqualifier) (now pairtype)) n ⌝
+        ∗ ⌜ PairsIn pendingPlaces (notesOf (now pairqualifier) (now pairtype)) n ⌝
         ∗ ⌜ length (now crowded) ≡ nodes ⌝ }
     ensures { λ r. ⌜ LookedIf (now (rule .entry)) (typesOf (now (typeparent .entry)) (now (kind .entry)))
         (qualifiersOf (now (qualifierparent .entry)) (now (bound .entry))) (qualifiersOf (now (qualifierparent .exit)) (now (bound .exit)))
@@ -289,8 +290,8 @@ fn call_row(
     kids: &[u16; PART_PLACES],
     left: &mut [u16; PAIR_PLACES],
     right: &mut [u16; PAIR_PLACES],
-    pairqualifier: &mut [u16; PAIR_PLACES],
-    pairtype: &mut [u16; PAIR_PLACES],
+    pairqualifier: &mut [u16; PENDING_PLACES],
+    pairtype: &mut [u16; PENDING_PLACES],
     crowded: &mut [u8; NODES],
     n: usize,
     i: usize,
@@ -353,15 +354,15 @@ fn function_plain(
     bound: &mut [u8; NODES],
     typeparent: &[u16; NODES],
     kind: &[u16; NODES],
-    pairqualifier: &mut [u16; PAIR_PLACES],
-    pairtype: &mut [u16; PAIR_PLACES],
+    pairqualifier: &mut [u16; PENDING_PLACES],
+    pairtype: &mut [u16; PENDING_PLACES],
     crowded: &mut [u8; NODES],
     n: usize,
     function: usize,
 ) -> Sweep
     requires { ⌜ Classes (now rule) (qualifiersOf (now qualifierparent) (now bound)) ⌝
         ∗ ⌜ TypeClasses (typesOf (now typeparent) (now kind)) ⌝
-        ∗ ⌜ Pairs (notesOf (now pairqualifier) (now pairtype)) n ⌝
+        ∗ ⌜ PairsIn pendingPlaces (notesOf (now pairqualifier) (now pairtype)) n ⌝
         ∗ ⌜ (length (now crowded) ≡ nodes) × (function < rowType 256) ⌝ }
     ensures { λ r. ⌜ MadePlain (now (rule .entry)) (typesOf (now (typeparent .entry)) (now (kind .entry)))
         (qualifiersOf (now (qualifierparent .entry)) (now (bound .entry))) (qualifiersOf (now (qualifierparent .exit)) (now (bound .exit)))
@@ -399,8 +400,8 @@ fn bind_row(
     typeparent: &[u16; NODES],
     kind: &mut [u16; NODES],
     kids: &[u16; PART_PLACES],
-    pairqualifier: &mut [u16; PAIR_PLACES],
-    pairtype: &mut [u16; PAIR_PLACES],
+    pairqualifier: &mut [u16; PENDING_PLACES],
+    pairtype: &mut [u16; PENDING_PLACES],
     crowded: &mut [u8; NODES],
     n: usize,
     i: usize,
@@ -461,8 +462,8 @@ fn app_row(
     kids: &[u16; PART_PLACES],
     left: &mut [u16; PAIR_PLACES],
     right: &mut [u16; PAIR_PLACES],
-    pairqualifier: &mut [u16; PAIR_PLACES],
-    pairtype: &mut [u16; PAIR_PLACES],
+    pairqualifier: &mut [u16; PENDING_PLACES],
+    pairtype: &mut [u16; PENDING_PLACES],
     crowded: &mut [u8; NODES],
     n: usize,
     i: usize,
@@ -531,8 +532,8 @@ pub fn step(
     kids: &[u16; PART_PLACES],
     left: &mut [u16; PAIR_PLACES],
     right: &mut [u16; PAIR_PLACES],
-    pairqualifier: &mut [u16; PAIR_PLACES],
-    pairtype: &mut [u16; PAIR_PLACES],
+    pairqualifier: &mut [u16; PENDING_PLACES],
+    pairtype: &mut [u16; PENDING_PLACES],
     crowded: &mut [u8; NODES],
     n: usize,
     i: usize,

@@ -10,12 +10,12 @@ use borrow.Author.Tests.{lt-ltb}
 use Rattle.scheme.specs.Schemes.{words}
 use Rattle.scheme.proofs.Schemes.{sound-few}
 use Rattle.layout.specs.Kinds.{intKind}
-use Rattle.layout.specs.Layout.{rowType, rowQualifier}
+use Rattle.layout.specs.Layout.{rowType, rowQualifier, pendingPlaces}
 use Rattle.model.specs.Machine.{Machine, typeAt}
 use Rattle.model.specs.WellFormed.{WellFormed, TypeStands}
 use Rattle.model.specs.declared.TypeForm.{TypeForm}
 use Rattle.model.specs.declared.TypeForm.the-variants.{Int, Any, Arrow}
-use Rattle.forest.specs.Pairs.{Notes, notesOf, leftAt, rightAt, Pairs}
+use Rattle.forest.specs.Pairs.{Notes, notesOf, leftAt, rightAt, PairsIn}
 use Rattle.graph.specs.Types.{typesOf, kindAt, argument, result, argumentQualifier, resultQualifier}
 use Rattle.qualifiers.specs.Classes.{qualifiersOf}
 use Rattle.readings.specs.Standing as standing
@@ -125,7 +125,7 @@ module _ {kids : List ℕ} {typecount : ℕ} {q ty : List ℕ} {paramcount : ℕ
     few : n₂ ≤ linePairs
     few = omega (arith, first .1, second .1, of .types, of .params, wf .types-fit, wf .params-fit)
 
-    pub line-pairs : Pairs N₂ n₂
+    pub line-pairs : PairsIn pendingPlaces N₂ n₂
     line-pairs =
         record {
           fits = omega (arith, few);

@@ -62,7 +62,8 @@ note-requires : tie.Need-note-requires Inv-loop μ-loop
 note-requires c κs =
     let turn = c .before .before .before .before .before .before .before .before .before .before .loop .inv in
     let pair = pair-nodes turn (c .before .before .before .before .before .before .before .before .before .loop-test .taken) (c .before .before .before .before .before .before .before .before .before .before .before .pre .1 .1 .0) in
-    (omega (arith, turn .swept .fewer, c .before .before .before .before .before .before .before .before .before .before .before .pre .1 .1 .0 .fits), pair .0, pair .1)
+    let room = c .before .before .before .before .before .before .before .before .before .before .before .pre .1 .1 .0 .fits in
+    (omega (arith, turn .swept .fewer, room), omega (arith, turn .swept .fewer, room), pair .0, pair .1)
 
 loop-less : tie.Need-loop-less Inv-loop μ-loop
 loop-less c = omega arith

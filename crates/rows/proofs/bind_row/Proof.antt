@@ -38,7 +38,7 @@ note-requires : tie.Need-note-requires
 note-requires c κs =
     let a = c .before .before .before .before .before .before .before .before .before .before .before .before .before .before .before .before .before .before in
     let room = note-ready _ _ _ _ _ _ _ _ _ _ _ _ _ (a .pre .0) (a .pre .1 .1 .0) (a .pre .1 .1 .1 .0) (a .pre .1 .1 .1 .1) _ (rw (not-false (c .before .before .before .before .before .before .before .before .before .before .before .before .before .before .before .bind .result) (c .before .before .before .before .before .before .before .before .before .before .before .before .before .before .if1 .left)) at (c .before .before .before .before .before .before .before .before .before .before .before .before .before .before .before .bind .ensures)) (rw (c .before .before .before .before .before .kept .given .1) at (c .before .before .before .before .before .before .before .function-plain .ensures)) in
-    (room .0, omega (arith, c .before .row-qualifier .ensures, room .1), omega (arith, c .row-type2 .ensures, room .2))
+    (omega (arith, room .0), omega (arith, room .0), omega (arith, c .before .row-qualifier .ensures, room .1), omega (arith, c .row-type2 .ensures, room .2))
 
 within-bounds-requires : tie.Need-within-bounds-requires
 within-bounds-requires c κs =
