@@ -1,9 +1,6 @@
 // A text's program inferred many times over: what the measure of speed links.
-ghost use Prim.Native.Nat.{_<_};
-ghost use lib.ListN.{length};
 ghost use Rattle.scheme.specs.Six.{sixTable};
 ghost use Rattle.model.specs.Text.{Returns};
-ghost use Rattle.table.specs.Lists.{lists};
 ghost use Rattle.table.specs.Ready.{Ready};
 use schemes::Schemes;
 use table::Table;
