@@ -38,7 +38,7 @@ extern "C" {
 
 /*
  * The same for placement_run and placement_run_under, and for placement_session where its script has the command run. Measured: 175,000 for
- * ordinary tables and 204,000 for the deepest types found, in a session 203,000 and 232,000; in one without a run 58,000 and 88,000.
+ * ordinary tables and 204,000 for the deepest types found, in a session 202,000 and 232,000; in one without a run 58,000 and 88,000.
  */
 #define PLACEMENT_RUN_STACK_LENGTH 393216
 
