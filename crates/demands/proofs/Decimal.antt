@@ -1,30 +1,22 @@
 -- Numbers as they are written hold digits alone and are read back, so that two lines of numbers that are the same have the same numbers.
 use Prim.Native.Nat.{ℕ, _+_}
 use native.Mathlib.Omega.{arith}
-use mathlib.Core.Bool.{Bool, true, false, _&&_, cond, false≢true}
+use mathlib.Core.Bool.{true, false, false≢true}
 use mathlib.Core.List.{List, [], _∷_, _++_, append-assoc}
 use mathlib.Core.Path.{_≡_, refl, sym, ap, _∙_}
-use lib.Dec.{leb}
 use lib.ListN.{length}
 use Rattle.scheme.proofs.Every.{and-left, and-right}
 use Rattle.model.specs.Lists.{allOf, bytes}
-use Rattle.model.specs.Number.{isDigit, valueFrom, noLeadingZero, numberOf, decimal}
+use Rattle.model.specs.Number.{isDigit, numberOf, decimal}
 use Rattle.model.specs.Machine.{Machine}
 use Rattle.model.specs.Inference.{Slot, Shape}
 use Rattle.model.specs.Report.{line, lines, variableLine, paramLine, rowLine, report}
-use Rattle.model.specs.declared.Field.the-variants.{Value, NoValue}
+use Rattle.model.specs.declared.Field.the-variants.{Value}
+use Rattle.model.proofs.Numerals.{number-numeral}
 use Rattle.tokens.proofs.RoundTrip.{number-of-decimal}
 
-passed : (t : Bool) (v n : ℕ) → cond t (Value v) NoValue ≡ Value n → t ≡ true
-passed true v n e = refl
-passed false v n e = cc
-
 pub number-digits : (most n : ℕ) (s : List ℕ) → numberOf most s ≡ Value n → allOf isDigit s ≡ true
-unfolding numberOf
-number-digits most n s e =
-    let small : Bool = leb (valueFrom 0 s) most in
-    let both = passed (noLeadingZero s && allOf isDigit s && small) (valueFrom 0 s) n e in
-    and-right (noLeadingZero s) (allOf isDigit s) (and-left (noLeadingZero s && allOf isDigit s) small both)
+number-digits most n s e = number-numeral most s n e .0 .all-digits
 
 pub decimal-digits : (n : ℕ) → allOf isDigit (decimal n) ≡ true
 decimal-digits n = number-digits n n (decimal n) (number-of-decimal n n (omega arith))

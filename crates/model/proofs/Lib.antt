@@ -2,6 +2,7 @@ pub mod Lists
 pub mod Capitals
 pub mod Names
 pub mod Digits
+pub mod Numerals
 pub mod Fewer
 pub mod Weaker
 pub mod Unique

@@ -6,78 +6,38 @@ use mathlib.Core.List.{List, [], _∷_, _++_}
 use mathlib.Core.Path.{_≡_, refl, sym, ap, _∙_}
 use lib.Dec.{eqb, ltb}
 use lib.ListN.{getD}
-use borrow.Author.Tests.{le-leb, ne-eqb, ltb-true, ltb-false, eqb-true}
-use Rattle.scheme.proofs.Every.{every-at, and-left, and-right, and-both}
-use Rattle.model.specs.Lists.{allOf}
-use Rattle.model.specs.Number.{isDigit, valueFrom, noLeadingZero, numberOf, digits, decimal}
+use borrow.Author.Tests.{ltb-true, ltb-false, eqb-true}
+use Rattle.scheme.proofs.Every.{every-at}
+use Rattle.model.specs.Number.{isDigit, numberOf, digits, decimal}
 use Rattle.model.specs.Word.{qualifierWords, capital, capitals, spells, placeIn, variableCode, wordOf, qualifierOf, qualifierWord}
 use Rattle.scheme.specs.Six.{sixTable}
 use Rattle.model.specs.declared.Field.{Field}
 use Rattle.model.specs.declared.Field.the-variants.{Value, NoValue}
+use Rattle.model.proofs.Numerals.{Numeral, is-digit, one-digit, longer-numeral, numeral-number}
 use Rattle.model.proofs.Capitals.{spells-exactly, word-capitals}
 use Rattle.tokens.proofs.Bounds.{none-is-none, place-between}
 
--- The bytes are digits of the value n without a leading zero; where n is not 0 the first is no 0, so that digits may follow.
-record Numeral (n : ℕ) (w : List ℕ) : Type 0 where
-  all-digits : allOf isDigit w ≡ true
-  value : valueFrom 0 w ≡ n
-  led : noLeadingZero w ≡ true
-  first : 0 < n → getD w 0 0 ≡ 48 → ⊥
+written-digit : (d : ℕ) → d < 10 → isDigit (48 + d) ≡ true
+written-digit d h = is-digit (48 + d) (omega arith) (omega arith)
 
-one-digit : (d : ℕ) → d < 10 → isDigit (48 + d) ≡ true
-one-digit d h = simp (le-leb 48 (48 + d) (omega arith), le-leb (48 + d) 57 (omega arith))
-
-digit-numeral : (n : ℕ) → n < 10 → Numeral n ((48 + n) ∷ [])
-digit-numeral n h =
-    record {
-      all-digits = simp (one-digit n h);
-      value = omega arith;
-      led = refl;
-      first = λ p e. omega arith;
-    }
-
--- A digit more at the end.
-all-digits-end : (w : List ℕ) (b : ℕ) → allOf isDigit w ≡ true → isDigit b ≡ true → allOf isDigit (w ++ (b ∷ [])) ≡ true
-all-digits-end [] b p q = simp q
-all-digits-end (x ∷ w) b p q =
-    and-both (isDigit x) _ (and-left (isDigit x) (allOf isDigit w) p) (all-digits-end w b (and-right (isDigit x) (allOf isDigit w) p) q)
-
-value-end : (m : ℕ) (w : List ℕ) (b : ℕ) → valueFrom m (w ++ (b ∷ [])) ≡ valueFrom m w * 10 + (b - 48)
-value-end m [] b = refl
-value-end m (x ∷ w) b = value-end (m * 10 + (x - 48)) w b
-
-led-end : (w : List ℕ) (b : ℕ) → noLeadingZero w ≡ true → (getD w 0 0 ≡ 48 → ⊥) → (noLeadingZero (w ++ (b ∷ [])) ≡ true) × (getD (w ++ (b ∷ [])) 0 0 ≡ 48 → ⊥)
-led-end [] b l f = let z : _≡_ {A = ℕ} 0 1 = cc in absurd (omega arith)
-led-end (x ∷ []) b l f = (simp (ne-eqb x 48 f), f)
-led-end (x ∷ y ∷ w) b l f = (l, f)
-
-longer-numeral : (m d : ℕ) (w : List ℕ) → 0 < m → d < 10 → Numeral m w → Numeral (m * 10 + d) (w ++ ((48 + d) ∷ []))
-longer-numeral m d w p h n =
-    let l : (noLeadingZero (w ++ ((48 + d) ∷ [])) ≡ true) × (getD (w ++ ((48 + d) ∷ [])) 0 0 ≡ 48 → ⊥) = led-end w (48 + d) (n .led) (n .first p) in
-    record {
-      all-digits = all-digits-end w (48 + d) (n .all-digits) (one-digit d h);
-      value = value-end 0 w (48 + d) ∙ omega (arith, n .value);
-      led = l .0;
-      first = λ q. l .1;
-    }
+last-numeral : (n : ℕ) → n < 10 → Numeral n ((48 + n) ∷ [])
+last-numeral n h = let back : 48 + n - 48 ≡ n = omega arith in rw back at (one-digit (48 + n) (written-digit n h))
 
 digits-numeral : (fuel n : ℕ) → n ≤ fuel → Numeral n (digits fuel n)
-digits-numeral zero n h = digit-numeral n (omega arith)
+digits-numeral zero n h = last-numeral n (omega arith)
 digits-numeral (suc fuel) n h = by (ltb n 10) refl (digits-numeral fuel (n / 10))
   where
     by : (t : Bool) → ltb n 10 ≡ t → (n / 10 ≤ fuel → Numeral (n / 10) (digits fuel (n / 10)))
         → Numeral n (cond t ((48 + n) ∷ []) (digits fuel (n / 10) ++ ((48 + n % 10) ∷ [])))
-    by true e shorter = digit-numeral n (ltb-true n 10 e)
+    by true e shorter = last-numeral n (ltb-true n 10 e)
     by false e shorter =
         let long : 10 ≤ n = ltb-false n 10 e in
-        let whole : n / 10 * 10 + n % 10 ≡ n = omega arith in
-        rw whole at (longer-numeral (n / 10) (n % 10) (digits fuel (n / 10)) (omega arith) (omega arith) (shorter (omega arith)))
+        let whole : n / 10 * 10 + (48 + n % 10 - 48) ≡ n = omega arith in
+        rw whole at (longer-numeral (n / 10) (48 + n % 10) (digits fuel (n / 10)) (omega arith) (written-digit (n % 10) (omega arith)) (shorter (omega arith)))
 
 pub number-of-decimal : (most n : ℕ) → n ≤ most → numberOf most (decimal n) ≡ Value n
-unfolding numberOf decimal
-number-of-decimal most n h =
-    let w : Numeral n (digits n n) = digits-numeral n n (omega arith) in
-    simp (w .led, w .all-digits, w .value, le-leb n most h)
+unfolding decimal
+number-of-decimal most n h = numeral-number most n (digits n n) (digits-numeral n n (omega arith)) h
 
 -- The seven words, one computed test.
 isValue : ℕ → Field → Bool
