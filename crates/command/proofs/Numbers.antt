@@ -11,9 +11,12 @@ use mir.Syntax.{w64}
 use mir.Val.{Fits}
 use borrow.Author.Tests.{lt-ltb, le-ltb}
 use Rattle.model.specs.Lists.{allOf, contains, lengthBefore}
-use Rattle.model.specs.declared.Field.{Field}
 use Rattle.model.specs.declared.Field.the-variants.{Value, NoValue}
-use Rattle.model.proofs.Lists.{before-most, contains-before}
+use Rattle.model.proofs.Lists.{contains-before}
+use Rattle.numbers.specs.NumberTo.{nextPlace, bytesTo, numberTo}
+use Rattle.numbers.specs.declared.Parsed.{Parsed}
+use Rattle.numbers.specs.declared.Parsed.the-variants.{UpTo, Failed}
+use Rattle.numbers.proofs.Ends.{number-failed, number-read, number-within}
 use Rattle.conversation.specs.Script.{argument, beforeBlank, afterBlank, frontWords, isNumber, numberIn, argumentsOf}
 
 -- Numbers, and those of the words behind them; none at all where some word is no number.
@@ -55,47 +58,48 @@ count-full s into count from counted h =
     sym (counted .left ∙ rw none (with-no-more (take count into)))
 
 -- The word that starts at `from` ends at the next blank, or with the bytes.
-module _ (s into : List ℕ) (count from to : ℕ) (counted : Counted s into count from) (is : to ≡ from + lengthBefore 32 (drop from s)) where
-  pub word-within : to ≤ length s
-  word-within = omega (arith, counted .within, before-most 32 (drop from s), length-drop from s)
+module _ (s into : List ℕ) (count from : ℕ) (word : Parsed) (counted : Counted s into count from) (more : count < 66) (read : word ≡ numberTo 32 4294967295 s from) where
+  abbrev later : List (List ℕ)
+  later = cond (contains 32 (drop from s)) (frontWords (66 - (count + 1)) (drop (nextPlace 32 s from + 1) s)) []
 
-  -- A slice has fewer than 2 ^ 63 bytes.
-  pub next-fits : length s * 1 < 2 ^ 63 → Fits w64 (to + 1)
-  next-fits room = omega (arith, word-within)
+  read-words : frontWords (66 - count) (drop from s) ≡ bytesTo 32 s from ∷ later
+  read-words =
+      let next : from + (lengthBefore 32 (drop from s) + 1) ≡ nextPlace 32 s from + 1 = omega arith in
+      words-first (66 - (count + 1)) (66 - count) (drop from s) (omega arith) ∙ rw (drop-drop (lengthBefore 32 (drop from s) + 1) from s, next)
 
-  module _ (more : count < 66) (field : Field) (reads : field ≡ argument (take (to - from) (drop from s))) where
-    abbrev later : List (List ℕ)
-    later = cond (contains 32 (drop from s)) (frontWords (66 - (count + 1)) (drop (to + 1) s)) []
+  pub no-number : word ≡ Failed → take 0 into ≡ argumentsOf (frontWords 66 s)
+  no-number e = sym (counted .left ∙ ap (with (take count into)) read-words ∙ with-none (take count into) _ later (number-failed 32 4294967295 s from word read e))
 
-    read-words : frontWords (66 - count) (drop from s) ≡ take (to - from) (drop from s) ∷ later
-    read-words =
-        let size : to - from ≡ lengthBefore 32 (drop from s) = omega arith in
-        let next : from + (lengthBefore 32 (drop from s) + 1) ≡ to + 1 = omega arith in
-        words-first (66 - (count + 1)) (66 - count) (drop from s) (omega arith) ∙ rw (size, drop-drop (lengthBefore 32 (drop from s) + 1) from s, next)
+  module _ (n to : ℕ) (is : word ≡ UpTo n to) where
+    number-is : (argument (bytesTo 32 s from) ≡ Value n) × (nextPlace 32 s from ≡ to)
+    number-is = number-read 32 4294967295 s from word read n to is
 
-    pub no-number : field ≡ NoValue → take 0 into ≡ argumentsOf (frontWords 66 s)
-    no-number e = sym (counted .left ∙ ap (with (take count into)) read-words ∙ with-none (take count into) _ later (sym reads ∙ e))
+    word-within : to ≤ length s
+    word-within = number-within 32 4294967295 s from word read n to is (counted .within)
 
-    module _ (n : ℕ) (e : field ≡ Value n) where
-      one-more : argumentsOf (frontWords 66 s) ≡ with (take (count + 1) (set into count n)) later
-      one-more =
-          let stored : take (count + 1) (set into count n) ≡ take count into ++ (n ∷ []) = rw add-one (take-suc-set into count n (omega (arith, counted .room))) in
-          counted .left ∙ ap (with (take count into)) read-words ∙ with-one (take count into) _ later n (sym reads ∙ e) ∙ ap (λ (numbers : List ℕ). with numbers later) (sym stored)
+    -- A slice has fewer than 2 ^ 63 bytes.
+    pub next-fits : length s * 1 < 2 ^ 63 → Fits w64 (to + 1)
+    next-fits room = omega (arith, word-within)
 
-      pub last-number : to ≡ length s → take (count + 1) (set into count n) ≡ argumentsOf (frontWords 66 s)
-      last-number end =
-          let none : contains 32 (drop from s) ≡ false = contains-before 32 (drop from s) ∙ le-ltb (lengthBefore 32 (drop from s)) (length (drop from s)) (omega (arith, length-drop from s)) in
-          sym (one-more ∙ rw none (with-no-more (take (count + 1) (set into count n))))
+    one-more : argumentsOf (frontWords 66 s) ≡ with (take (count + 1) (set into count n)) later
+    one-more =
+        let stored : take (count + 1) (set into count n) ≡ take count into ++ (n ∷ []) = rw add-one (take-suc-set into count n (omega (arith, counted .room))) in
+        counted .left ∙ ap (with (take count into)) read-words ∙ with-one (take count into) _ later n (number-is .0) ∙ ap (λ (numbers : List ℕ). with numbers later) (sym stored)
 
-      pub last-fits : count + 1 ≤ length (set into count n)
-      last-fits = simp length-set (omega (arith, counted .room))
+    pub last-number : to ≡ length s → take (count + 1) (set into count n) ≡ argumentsOf (frontWords 66 s)
+    last-number end =
+        let none : contains 32 (drop from s) ≡ false = contains-before 32 (drop from s) ∙ le-ltb (lengthBefore 32 (drop from s)) (length (drop from s)) (omega (arith, number-is .1, length-drop from s)) in
+        sym (one-more ∙ rw none (with-no-more (take (count + 1) (set into count n))))
 
-      pub next-number : ¬ (to ≡ length s) → Counted s (set into count n) (count + 1) (to + 1)
-      next-number inner =
-          let some : contains 32 (drop from s) ≡ true = contains-before 32 (drop from s) ∙ lt-ltb (lengthBefore 32 (drop from s)) (length (drop from s)) (omega (arith, length-drop from s, word-within)) in
-          record {
-            room = length-set into count n ∙ counted .room;
-            few = omega arith;
-            within = omega (arith, word-within);
-            left = one-more ∙ rw some refl;
-          }
+    pub last-fits : count + 1 ≤ length (set into count n)
+    last-fits = simp length-set (omega (arith, counted .room))
+
+    pub next-number : ¬ (to ≡ length s) → Counted s (set into count n) (count + 1) (to + 1)
+    next-number inner =
+        let some : contains 32 (drop from s) ≡ true = contains-before 32 (drop from s) ∙ lt-ltb (lengthBefore 32 (drop from s)) (length (drop from s)) (omega (arith, number-is .1, length-drop from s, word-within)) in
+        record {
+          room = length-set into count n ∙ counted .room;
+          few = omega arith;
+          within = omega (arith, word-within);
+          left = one-more ∙ rw (some, number-is .1) refl;
+        }

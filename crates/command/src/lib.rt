@@ -5,9 +5,11 @@ ghost use Prim.Native.Nat.{ℕ, _≤_};
 ghost use lib.ListN.{length, take};
 ghost use Rattle.conversation.specs.Script.{begins, beforeBlank, redeclareOf, argument, afterBlank, frontWords, argumentsOf, commandOf};
 ghost use Rattle.command.specs.Said.{said, wordLength};
-use lines::find;
 use model::Field;
-use tokens::numbers::number_in;
+use numbers::LARGEST;
+use numbers::Parsed;
+use numbers::number_in;
+use numbers::number_to;
 use tokens::words::same;
 
 // How many numbers of a run are looked at. No job has more than 64 leading LAMs, so that this many are too many for each.
@@ -67,24 +69,15 @@ fn begins(s: &[u8], word: &[u8]) -> bool
 fn redeclare_in(s: &[u8]) -> Command
     ensures { λ r. ⌜ ((t : List ℕ) → said r t ≡ redeclareOf (argument (beforeBlank (now (s .entry)))) (argument (afterBlank (now (s .entry))))) × (wordLength r ≡ 0) ⌝ }
 {
-    let at = find(s, 0, b' ');
-    if at == s.len() {
+    let Parsed::UpTo(p, end) = number_to(s, 0, b' ', LARGEST) else {
+        return Command::Nothing;
+    };
+    let next = end + 1;
+    if s.len() < next {
         return Command::Nothing;
     }
-    let next = at + 1;
-    let p = argument_in(&s[..at]);
-    let code = argument_in(&s[next..]);
-    both(p, code)
-}
-
-fn both(p: Field, code: Field) -> Command
-    ensures { λ r. ⌜ ((t : List ℕ) → said r t ≡ redeclareOf p code) × (wordLength r ≡ 0) ⌝ }
-{
-    match p {
-        Field::Value(p) => match code {
-            Field::Value(code) => Command::Redeclare(p, code),
-            Field::NoValue => Command::Nothing,
-        },
+    match number_in(&s[next..], LARGEST) {
+        Field::Value(code) => Command::Redeclare(p, code),
         Field::NoValue => Command::Nothing,
     }
 }
@@ -98,10 +91,9 @@ pub fn arguments(s: &[u8], into: &mut [u32; ARGUMENTS]) -> usize
     let mut count: usize = 0;
     let mut from: usize = 0;
     while count < ARGUMENTS {
-        let to = find(s, from, b' ');
-        match argument_in(&s[from..to]) {
-            Field::NoValue => return 0,
-            Field::Value(number) => {
+        match number_to(s, from, b' ', LARGEST) {
+            Parsed::Failed => return 0,
+            Parsed::UpTo(number, to) => {
                 into[count] = number;
                 count += 1;
                 if to == s.len() {
@@ -112,11 +104,4 @@ pub fn arguments(s: &[u8], into: &mut [u32; ARGUMENTS]) -> usize
         }
     }
     count
-}
-
-// A number that a command is given.
-fn argument_in(s: &[u8]) -> Field
-    ensures { λ r. ⌜ r ≡ argument (now (s .entry)) ⌝ }
-{
-    number_in(s, 4294967295)
 }

@@ -1,16 +1,21 @@
 -- How a line begins: its tag, its own number, and the fields after those.
-use Prim.Native.Nat.{ℕ, _+_, _-_, _<_}
+use Prim.Native.Nat.{ℕ, _+_, _-_, _≤_, _<_}
 use native.Mathlib.Omega.{arith}
 use mathlib.Core.List.{List, [], _∷_}
 use mathlib.Core.Path.{_≡_, sym, ap, _∙_}
 use lib.ListN.{length, getD, take, drop, length-drop}
 use lib.Seq.{getD-drop, drop-drop}
+use mir.Syntax.{w16}
+use mir.Val.{Fits}
 use Rattle.model.specs.Number.{numberOf}
 use Rattle.model.specs.Line.{fields, field, number}
-use Rattle.model.specs.declared.Field.{Field}
-use Rattle.model.specs.declared.Field.the-variants.{Value, NoValue}
+use Rattle.model.specs.declared.Field.the-variants.{NoValue}
+use Rattle.numbers.specs.NumberTo.{nextPlace, bytesTo, numberTo}
+use Rattle.numbers.specs.declared.Parsed.{Parsed}
+use Rattle.numbers.specs.declared.Parsed.the-variants.{UpTo, Failed}
+use Rattle.numbers.proofs.Ends.{number-failed, number-read, number-most}
 use Rattle.tokens.specs.Part.{fieldsFrom, FieldTo}
-use Rattle.tokens.proofs.Parting.{from-within, from-past}
+use Rattle.tokens.proofs.Parting.{from-within, from-past, field-first}
 use Rattle.line.specs.Beginning.{Begun}
 
 -- The tag, up to `end`.
@@ -23,17 +28,25 @@ module _ (s : List ℕ) (end : ℕ) (f : FieldTo s 0 end) where
   unfolding numberOf
   own-none past = simp (line-fields, from-past s (end + 1) past)
 
-  module _ (to : ℕ) (g : FieldTo s (end + 1) to) (r : Field) (e : r ≡ numberOf 65535 (take (to - (end + 1)) (drop (end + 1) s))) where
-    own-read : r ≡ number s 1
-    own-read = e ∙ simp (line-fields, g .parts)
+  -- The number that starts after the tag is the one in field 1.
+  module _ (within : end + 1 ≤ length s) (r : Parsed) (e : r ≡ numberTo 44 65535 s (end + 1)) where
+    both : fields s ≡ take (end - 0) s ∷ bytesTo 44 s (end + 1) ∷ fieldsFrom s (nextPlace 44 s (end + 1) + 1)
+    both = line-fields ∙ simp (field-first s (end + 1) within)
 
-    pub own-not : r ≡ NoValue → number s 1 ≡ NoValue
-    own-not none = sym own-read ∙ none
+    own-field : number s 1 ≡ numberOf 65535 (bytesTo 44 s (end + 1))
+    own-field = simp both
 
-    pub begun : (i : ℕ) → r ≡ Value i → Begun s i 2 (fieldsFrom s (to + 1))
-    begun i is =
-        let both : fields s ≡ take (end - 0) s ∷ take (to - (end + 1)) (drop (end + 1) s) ∷ fieldsFrom s (to + 1) = line-fields ∙ simp (g .parts) in
-        record { own = sym own-read ∙ is; enough = simp both (omega arith); left = simp both }
+    pub own-not : r ≡ Failed → number s 1 ≡ NoValue
+    own-not none = own-field ∙ number-failed 44 65535 s (end + 1) r e none
+
+    pub begun : (i to : ℕ) → r ≡ UpTo i to → Begun s i 2 (fieldsFrom s (to + 1))
+    begun i to is =
+        let read = number-read 44 65535 s (end + 1) r e i to is in
+        record { own = own-field ∙ read .0; enough = simp both (omega arith); left = simp (both, read .1) }
+
+-- A number at any place fits where it is stored.
+pub own-fits : (s : List ℕ) (from : ℕ) (r : Parsed) (i to : ℕ) → r ≡ numberTo 44 65535 s from → r ≡ UpTo i to → Fits w16 i
+own-fits s from r i to e is = omega (arith, number-most 44 65535 s from r e i to is)
 
 -- The field after the first `before`.
 module _ (s : List ℕ) (i before from to : ℕ) (b : Begun s i before (fieldsFrom s from)) (f : FieldTo s from to) where

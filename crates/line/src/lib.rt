@@ -8,10 +8,9 @@ ghost use Rattle.model.specs.Line.{fields, typeLine, paramLine, leafLine, termL
 ghost use Rattle.tokens.specs.Names.{Few};
 ghost use Rattle.tokens.specs.Part.{fieldsFrom};
 ghost use Rattle.line.specs.Beginning.{Begun};
-use model::Field;
 use model::Line;
+use numbers::Parsed;
 use tokens::fields;
-use tokens::numbers;
 use tokens::values;
 use tokens::words;
 
@@ -37,16 +36,12 @@ fn type_line(names: &[u8], s: &[u8], i: u16, from: usize) -> Line
     Line::NoForm
 }
 
-// A parameter of the number p, whose qualifier starts at `from`: without a floor, or else with one.
+// A parameter of the number p, whose qualifier starts at `from`.
 fn param_line(names: &[u8], s: &[u8], p: u16, from: usize) -> Line
     requires { ⌜ Few (now names) × Begun (now s) p 2 (fieldsFrom (now s) from) ⌝ }
     ensures { λ r. ⌜ r ≡ paramLine (fields (now (names .entry))) (now (s .entry)) ⌝ }
 {
-    let v = values::read(names, b"qn", s, from);
-    if v.all {
-        return forms::param(p, v);
-    }
-    forms::param(p, values::read(names, b"qnw", s, from))
+    forms::param(p, values::read(names, b"qnf", s, from))
 }
 
 // A term row without children.
@@ -123,9 +118,8 @@ pub fn read(names: &[u8], s: &[u8]) -> Line
     if s.len() < from {
         return Line::NoForm;
     }
-    let to = fields::end(s, from);
-    match numbers::number_in(&s[from..to], values::NUMBER) {
-        Field::Value(i) => tagged_line(names, s, i as u16, to + 1),
-        Field::NoValue => Line::NoForm,
+    match fields::number(s, from, values::NUMBER) {
+        Parsed::UpTo(i, end) => tagged_line(names, s, i as u16, end + 1),
+        Parsed::Failed => Line::NoForm,
     }
 }

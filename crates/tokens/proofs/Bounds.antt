@@ -1,41 +1,33 @@
 -- How large the values are that the definitions of a number, a qualifier, a floor, a scheme and an operation give.
 use Prim.Native.Nat.{ℕ, suc, _+_, _≤_, _<_}
 use native.Mathlib.Omega.{arith}
-use mathlib.Core.Bool.{Bool, true, false, _&&_, cond}
+use mathlib.Core.Bool.{Bool, true, false, cond}
 use mathlib.Core.List.{List, [], _∷_}
 use mathlib.Core.Path.{_≡_, refl, sym, ap, _∙_}
-use lib.Dec.{eqb, leb}
+use lib.Dec.{eqb}
 use lib.ListN.{length}
 use mir.Syntax.{w8, w16}
 use mir.Val.{Fits}
-use borrow.Author.Tests.{leb-true, eqb-true, ne-eqb}
-use Rattle.scheme.proofs.Every.{and-right}
-use Rattle.model.specs.Lists.{allOf}
-use Rattle.model.specs.Number.{isDigit, valueFrom, noLeadingZero, numberOf}
+use borrow.Author.Tests.{eqb-true, ne-eqb}
+use Rattle.model.specs.Number.{numberOf}
 use Rattle.model.specs.Word.{spells, placeIn, qualifierWords, operationWords, orElse, variableCode, wordOf, variableOf, qualifierOf, schemeOf, operationOf}
 use Rattle.model.specs.Line.{fields, field, floor}
 use Rattle.model.specs.declared.Field.{Field}
 use Rattle.model.specs.declared.Field.the-variants.{Value, NoValue}
+use Rattle.model.proofs.Numerals.{number-numeral}
+use Rattle.numbers.specs.NumberTo.{nextPlace, bytesTo}
+use Rattle.numbers.specs.declared.Parsed.{Parsed}
+use Rattle.numbers.specs.declared.Parsed.the-variants.{UpTo, Failed}
+use Rattle.numbers.proofs.Ends.{next-within, up-to, failed-to}
 use Rattle.tokens.specs.Names.{Few}
-use Rattle.tokens.specs.Form.{valueOf}
+use Rattle.tokens.specs.Form.{isFloor, wordIn, valueOf, valueAt}
 
 -- No value is none.
 pub none-is-none : {A : Type 0} (n : ℕ) → NoValue ≡ Value n → A
 none-is-none n e = let z : _≡_ {A = ℕ} 0 1 = cc in absurd (omega arith)
 
--- A value that stands under a test was given: the test passed.
-passed : (t : Bool) (v n : ℕ) → cond t (Value v) NoValue ≡ Value n → (t ≡ true) × (v ≡ n)
-passed true v n e = (refl, cc)
-passed false v n e = none-is-none n e
-
 pub number-at-most : (most : ℕ) (s : List ℕ) (n : ℕ) → numberOf most s ≡ Value n → n ≤ most
-unfolding numberOf
-number-at-most most s n e = go (noLeadingZero s && allOf isDigit s) (leb (valueFrom 0 s) most) refl e
-  where
-    go : (a b : Bool) → leb (valueFrom 0 s) most ≡ b → cond (a && b) (Value (valueFrom 0 s)) NoValue ≡ Value n → n ≤ most
-    go a b p q =
-        let r : ((a && b) ≡ true) × (valueFrom 0 s ≡ n) = passed (a && b) (valueFrom 0 s) n q in
-        omega (arith, leb-true (valueFrom 0 s) most (p ∙ and-right a b (r .0)))
+number-at-most most s n e = number-numeral most s n e .1
 
 -- A place among words, counted from c.
 pub place-between : (c : ℕ) (words : List (List ℕ)) (s : List ℕ) (n : ℕ) → placeIn c words s ≡ Value n → (c ≤ n) × (n < c + length words)
@@ -101,21 +93,37 @@ floor-cases {P} names s c e left-out word = go (eqb (length (fields s)) 4) (eqb 
 pub floor-below : (names : List (List ℕ)) (s : List ℕ) (c : ℕ) → floor names s ≡ Value c → c < suc (length names)
 floor-below names s c e = floor-cases names s c e (λ four plain. omega arith) (λ five word. word-below names (field s 4) c word)
 
--- So what was read fits where it is stored.
-pub number-fits : (s : List ℕ) (r : Field) (n : ℕ) → r ≡ numberOf 65535 s → r ≡ Value n → Fits w16 n
-number-fits s r n e v = omega (arith, number-at-most 65535 s n (sym e ∙ v))
+-- What was read of a field at a place: its value, with the field's end, or that there is none.
+module _ (names : List (List ℕ)) (kind : ℕ) (s : List ℕ) (from : ℕ) (r : Parsed) (e : r ≡ valueAt names kind s from) where
+  pub value-read : (n to : ℕ) → r ≡ UpTo n to → (valueOf names kind (bytesTo 44 s from) ≡ Value n) × (nextPlace 44 s from ≡ to)
+  unfolding valueAt
+  value-read n to is = up-to (valueOf names kind (bytesTo 44 s from)) (nextPlace 44 s from) n to (sym e ∙ is)
 
-module _ (names : List ℕ) (kind : ℕ) (s : List ℕ) (r : Field) (n : ℕ) (e : r ≡ valueOf (fields names) kind s) (v : r ≡ Value n) where
+  pub value-missing : r ≡ Failed → valueOf names kind (bytesTo 44 s from) ≡ NoValue
+  unfolding valueAt
+  value-missing is = failed-to (valueOf names kind (bytesTo 44 s from)) (nextPlace 44 s from) (sym e ∙ is)
+
+-- So what was read fits where it is stored.
+module _ (names : List ℕ) (kind : ℕ) (s : List ℕ) (from : ℕ) (r : Parsed) (n to : ℕ) (e : r ≡ valueAt (fields names) kind s from) (is : r ≡ UpTo n to) where
+  read : valueOf (fields names) kind (bytesTo 44 s from) ≡ Value n
+  read = value-read (fields names) kind s from r e n to is .0
+
+  pub value-within : from ≤ length s → to ≤ length s
+  value-within h = omega (arith, value-read (fields names) kind s from r e n to is .1, next-within 44 s from h)
+
   pub field-fits : kind ≡ 110 → Fits w16 n
   unfolding valueOf
-  field-fits is = number-fits s r n (e ∙ simp is) v
+  field-fits kind-is = omega (arith, number-at-most 65535 (bytesTo 44 s from) n (simp kind-is at read))
 
   pub code-fits : Few names → (kind ≡ 110 → ⊥) → (kind ≡ 108 → ⊥) → Fits w8 n
-  unfolding valueOf
-  code-fits few number literal = omega (arith, most (eqb kind 113) (eqb kind 119) (eqb kind 115) (simp (ne-eqb kind 110 number, ne-eqb kind 108 literal) at (sym e ∙ v)))
+  unfolding valueOf wordIn
+  code-fits few number literal = omega (arith, most (eqb kind 113) (isFloor kind) (eqb kind 115) (simp (ne-eqb kind 110 number, ne-eqb kind 108 literal) at read))
     where
-      most : (q w m : Bool) → cond q (qualifierOf (fields names) s) (cond w (wordOf (fields names) s) (cond m (schemeOf (fields names) s) (operationOf s))) ≡ Value n → n ≤ 112
-      most true w m p = omega (arith, qualifier-below (fields names) s n p)
-      most false true m p = omega (arith, word-below (fields names) s n p)
-      most false false true p = omega (arith, scheme-between (fields names) s n p .1)
-      most false false false p = omega (arith, operation-below s n p)
+      word : List ℕ
+      word = bytesTo 44 s from
+
+      most : (q w m : Bool) → cond q (qualifierOf (fields names) word) (cond w (wordOf (fields names) word) (cond m (schemeOf (fields names) word) (operationOf word))) ≡ Value n → n ≤ 112
+      most true w m p = omega (arith, qualifier-below (fields names) word n p)
+      most false true m p = omega (arith, word-below (fields names) word n p)
+      most false false true p = omega (arith, scheme-between (fields names) word n p .1)
+      most false false false p = omega (arith, operation-below word n p)

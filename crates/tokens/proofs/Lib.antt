@@ -1,5 +1,4 @@
 pub mod Parting
-pub mod Digits
 pub mod Bounds
 pub mod Spelling
 pub mod Reading

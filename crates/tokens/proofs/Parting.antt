@@ -1,15 +1,19 @@
 -- The loops over a line's fields: what a byte that is a comma, or is none, does to the fields from there on.
 use Prim.Native.Nat.{ℕ, zero, suc, _+_, _-_, _≤_, _<_}
 use native.Mathlib.Omega.{arith}
+use native.Mathlib.Decide.{decLt}
 use native.Mathlib.Numerals.{add-one}
 use mathlib.Core.Bool.{Bool, true, false, cond}
-use mathlib.Core.List.{List, [], _∷_, _++_, append-nil, append-assoc}
+use mathlib.Core.List.{List, [], _∷_}
 use mathlib.Core.Path.{_≡_, refl, sym, ap, _∙_}
-use lib.Dec.{eqb}
+use lib.Dec.{eqb, leb, leb·suc-suc}
 use lib.ListN.{length, getD, take, drop, length-drop, drop-of-length-le}
-use lib.Seq.{drop-cons, take-suc, getD-drop}
+use lib.Seq.{drop-cons, drop-drop}
 use borrow.Author.Tests.{ne-eqb, le-leb, lt-leb}
+use Rattle.model.specs.Lists.{lengthBefore}
 use Rattle.model.specs.Line.{onto, fields, field}
+use Rattle.numbers.specs.NumberTo.{nextPlace, bytesTo}
+use Rattle.numbers.proofs.Ends.{next-within}
 use Rattle.tokens.specs.Part.{fieldsFrom, FieldAt, FieldTo}
 
 -- A byte more in front of the first field leaves the later fields, and how many there are.
@@ -71,19 +75,6 @@ module _ (s : List ℕ) (k i j : ℕ) (f : FieldAt s k i j) (more : j ≡ 0 → 
 
 pub ruleset starts = (start-first, start-here, start-none, start-comma, start-other)
 
--- Bytes in front of the first field.
-abbrev into : List ℕ → List (List ℕ) → List (List ℕ)
-into bs [] = bs ∷ []
-into bs (f ∷ fs) = (bs ++ f) ∷ fs
-
-into-none : (fs : List (List ℕ)) → 0 < length fs → into [] fs ≡ fs
-into-none [] h = absurd (omega arith)
-into-none (f ∷ fs) h = refl
-
-into-onto : (bs : List ℕ) (b : ℕ) (fs : List (List ℕ)) → into bs (onto b fs) ≡ into (bs ++ (b ∷ [])) fs
-into-onto bs b [] = refl
-into-onto bs b (f ∷ fs) = simp append-assoc
-
 -- The fields from a place on.
 pub from-within : (s : List ℕ) (i : ℕ) → i ≤ length s → fieldsFrom s i ≡ fields (drop i s)
 unfolding fieldsFrom
@@ -93,48 +84,40 @@ pub from-past : (s : List ℕ) (i : ℕ) → length s < i → fieldsFrom s i ≡
 unfolding fieldsFrom
 from-past s i h = simp (lt-leb i (length s) h)
 
--- The end of a field: what was passed of it stands before the fields of the rest.
-pub record Passed (s : List ℕ) (from i : ℕ) : Type 0 where
-  pub after : from ≤ i
-  pub within : i ≤ length s
-  pub parts : fields (drop from s) ≡ into (take (i - from) (drop from s)) (fields (drop i s))
+-- The next field: what stands before the next comma, and the fields after that.
+from-next : (b : ℕ) (bs : List ℕ) (i : ℕ) → fieldsFrom (b ∷ bs) (suc i) ≡ fieldsFrom bs i
+unfolding fieldsFrom
+from-next b bs i = simp leb·suc-suc
 
-pub end-first : (s : List ℕ) (from : ℕ) → from ≤ length s → Passed s from from
-end-first s from h =
-    let e : from - from ≡ 0 = omega arith in
-    record { after = omega arith; within = h; parts = rw e (sym (into-none (fields (drop from s)) (some-field (drop from s)))) }
+fields-first : (s : List ℕ) → fields s ≡ take (lengthBefore 44 s) s ∷ fieldsFrom s (suc (lengthBefore 44 s))
+unfolding fieldsFrom
+fields-first [] = refl
+fields-first (b ∷ bs) = by (eqb b 44) (fields-first bs)
+  where
+    by : (t : Bool) → fields bs ≡ take (lengthBefore 44 bs) bs ∷ fieldsFrom bs (suc (lengthBefore 44 bs)) →
+        cond t ([] ∷ fields bs) (onto b (fields bs)) ≡ take (cond t 0 (suc (lengthBefore 44 bs))) (b ∷ bs) ∷ fieldsFrom (b ∷ bs) (suc (cond t 0 (suc (lengthBefore 44 bs))))
+    by true rest = ap (λ (fs : List (List ℕ)). [] ∷ fs) (sym (from-within (b ∷ bs) 1 (omega arith)))
+    by false rest = ap (onto b) rest ∙ ap (λ (fs : List (List ℕ)). (b ∷ take (lengthBefore 44 bs) bs) ∷ fs) (sym (from-next b bs (suc (lengthBefore 44 bs))))
 
-module _ (s : List ℕ) (from i : ℕ) (p : Passed s from i) where
-  -- The field is whole where it ends before `rest`.
-  whole-field : (rest : List (List ℕ)) → fields (drop i s) ≡ [] ∷ rest → fieldsFrom s (i + 1) ≡ rest → FieldTo s from i
-  whole-field rest e next =
-      let start : from ≤ length s = (let after : from ≤ i = p .after in let within : i ≤ length s = p .within in omega arith) in
-      record {
-        after = p .after;
-        within = p .within;
-        parts = from-within s from start ∙ p .parts ∙ simp (e, append-nil, next);
-      }
+from-drop : (s : List ℕ) (from i : ℕ) → from ≤ length s → fieldsFrom (drop from s) i ≡ fieldsFrom s (from + i)
+unfolding fieldsFrom
+from-drop s from i h = simp (drop-drop, length-drop) (ap (λ (t : Bool). cond t (fields (drop (from + i) s)) []) (by (decLt (length s) (from + i))))
+  where
+    by : Dec (length s < from + i) → leb i (length s - from) ≡ leb (from + i) (length s)
+    by (yes past) = lt-leb i (length s - from) (omega arith) ∙ sym (lt-leb (from + i) (length s) past)
+    by (no within) = le-leb i (length s - from) (omega arith) ∙ sym (le-leb (from + i) (length s) (omega arith))
 
-  pub end-none : length s ≤ i → FieldTo s from i
-  end-none h = whole-field [] (simp (drop-of-length-le s h)) (from-past s (i + 1) (omega arith))
+module _ (s : List ℕ) (from : ℕ) (h : from ≤ length s) where
+  pub field-first : fieldsFrom s from ≡ bytesTo 44 s from ∷ fieldsFrom s (nextPlace 44 s from + 1)
+  field-first =
+      let next : from + suc (lengthBefore 44 (drop from s)) ≡ nextPlace 44 s from + 1 = omega arith in
+      from-within s from h ∙ fields-first (drop from s) ∙ rw (from-drop s from (suc (lengthBefore 44 (drop from s))) h, next)
 
-  module _ (h : i < length s) where
-    pub end-comma : getD s i 0 ≡ 44 → FieldTo s from i
-    end-comma e = whole-field (fields (drop (i + 1) s)) (at-comma s i h e) (from-within s (i + 1) (omega arith))
-
-    pub end-other : (getD s i 0 ≡ 44 → ⊥) → Passed s from (i + 1)
-    end-other e =
-        let after : from ≤ i = p .after in
-        let next : i + 1 - from ≡ suc (i - from) = omega arith in
-        let here : from + (i - from) ≡ i = omega arith in
-        let below : i - from < length (drop from s) = simp length-drop (omega arith) in
-        record {
-          after = omega arith;
-          within = omega arith;
-          parts = p .parts ∙ simp (at-other s i h e, into-onto, next, take-suc (drop from s) (i - from) 0 below, getD-drop, here);
-        }
-
-pub ruleset ends = (end-first, end-none, end-comma, end-other)
+  pub field-to : (to : ℕ) → to ≡ nextPlace 44 s from → FieldTo s from to
+  field-to to is =
+      let size : lengthBefore 44 (drop from s) ≡ to - from = omega arith in
+      let place : nextPlace 44 s from ≡ to = sym is in
+      record { after = omega arith; within = omega (arith, next-within 44 s from h); place = is; parts = field-first ∙ rw (place, size) }
 
 -- A field from its start to its end.
 pub field-whole : (s : List ℕ) (k from to : ℕ) → FieldAt s k from 0 → FieldTo s from to → take (to - from) (drop from s) ≡ field s k

@@ -9,6 +9,8 @@ use Rattle.model.specs.Number.{numberOf}
 use Rattle.model.specs.Word.{wordOf, qualifierOf, schemeOf, operationOf}
 use Rattle.model.specs.declared.Field.{Field}
 use Rattle.model.specs.declared.Field.the-variants.{Value, NoValue}
+use Rattle.numbers.specs.NumberTo.{withEnd, nextPlace, bytesTo}
+use Rattle.numbers.specs.declared.Parsed.{Parsed}
 use Rattle.tokens.specs.declared.values.Values.{Values}
 
 -- The letters of the two kinds that have no code.
@@ -18,14 +20,26 @@ isNumber kind = eqb kind 110
 abbrev pub isLiteral : ℕ → Bool
 isLiteral kind = eqb kind 108
 
--- What stands in a field: `n` is a number, `l` a literal, `q` a qualifier, `w` a qualifier's word, `s` a scheme, and any other letter, as `o`, an operation.
+-- Document 02, a): "four fields mean PLAIN". So a floor may be left out where no field follows it, and its code stays 0.
+abbrev pub isFloor : ℕ → Bool
+isFloor kind = eqb kind 102
+
+-- A word in a field: `q` is a qualifier, `f` a floor, which is a qualifier's word, `s` a scheme, and any other letter, as `o`, an operation.
+unfoldable pub wordIn : List (List ℕ) → ℕ → List ℕ → Field
+wordIn names kind s =
+    cond (eqb kind 113) (qualifierOf names s)
+    (cond (isFloor kind) (wordOf names s)
+    (cond (eqb kind 115) (schemeOf names s) (operationOf s)))
+
+-- What stands in a field: `n` is a number, `l` a literal, and of any other kind it is a word.
 unfoldable pub valueOf : List (List ℕ) → ℕ → List ℕ → Field
 valueOf names kind s =
     cond (isNumber kind) (numberOf 65535 s)
-    (cond (isLiteral kind) (numberOf 4294967295 s)
-    (cond (eqb kind 113) (qualifierOf names s)
-    (cond (eqb kind 119) (wordOf names s)
-    (cond (eqb kind 115) (schemeOf names s) (operationOf s)))))
+    (cond (isLiteral kind) (numberOf 4294967295 s) (wordIn names kind s))
+
+-- That of the field that starts at a place, with the place where it ends.
+unfoldable pub valueAt : List (List ℕ) → ℕ → List ℕ → ℕ → Parsed
+valueAt names kind s from = withEnd (valueOf names kind (bytesTo 44 s from)) (nextPlace 44 s from)
 
 -- The most fields that a form has.
 abbrev pub mostFields : ℕ
@@ -45,20 +59,20 @@ put kind k n v =
       literal = cond (isNumber kind) (v .literal) (cond (isLiteral kind) n (v .literal));
     }
 
--- After the last field.
-abbrev pub complete : Values → Values
-complete v = record { all = true; number = v .number; code = v .code; literal = v .literal }
+-- Whether all values are there.
+abbrev pub told : Bool → Values → Values
+told all v = record { all = all; number = v .number; code = v .code; literal = v .literal }
 
 -- A field's value goes into the rest; without one the values stay as they are.
 unfoldable pub onward : Field → Values → (ℕ → Values) → Values
 onward (Value n) v rest = rest n
 onward NoValue v rest = v
 
--- The values with those of the fields from k on. They are all there where each field has one of its kind, and there are as many fields as kinds.
+-- The values with those of the fields from k on. They are all there where each field has one of its kind, and there are as many fields as kinds; or one fewer, where that is a floor.
 abbrev pub valuesFrom : List (List ℕ) → Values → ℕ → List ℕ → List (List ℕ) → Values
-valuesFrom names v k [] [] = complete v
+valuesFrom names v k [] [] = told true v
 valuesFrom names v k [] (f ∷ fs) = v
-valuesFrom names v k (kind ∷ kinds) [] = v
+valuesFrom names v k (kind ∷ kinds) [] = told (isFloor kind) v
 valuesFrom names v k (kind ∷ kinds) (f ∷ fs) = onward (valueOf names kind f) v λ n. valuesFrom names (put kind k n v) (k + 1) kinds fs
 
 unfoldable pub valuesOf : List (List ℕ) → List ℕ → List (List ℕ) → Values

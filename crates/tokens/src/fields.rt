@@ -3,7 +3,11 @@ ghost use mathlib.Core.Path.{_≡_};
 ghost use Prim.Native.Nat.{_≤_};
 ghost use lib.ListN.{length};
 ghost use Rattle.model.specs.Line.{fields, field};
+ghost use Rattle.numbers.specs.NumberTo.{numberTo};
 ghost use Rattle.tokens.specs.Part.{FieldAt, FieldTo};
+use lines::find;
+use numbers::Parsed;
+use numbers::number_to;
 
 // Where field k starts; the end of the line where there are fewer.
 fn start(s: &[u8], k: usize) -> usize
@@ -30,14 +34,14 @@ pub fn end(s: &[u8], from: usize) -> usize
     requires { ⌜ from ≤ length (now s) ⌝ }
     ensures { λ r. ⌜ FieldTo (now (s .entry)) from r ⌝ }
 {
-    let mut i = from;
-    while i < s.len() {
-        if s[i] == b',' {
-            return i;
-        }
-        i += 1;
-    }
-    i
+    find(s, from, b',')
+}
+
+// The number in the field that starts at `from`, and where the field ends: its digits are read on the way to the comma.
+pub fn number(s: &[u8], from: usize, most: u32) -> Parsed
+    ensures { λ r. ⌜ r ≡ numberTo 44 most (now (s .entry)) from ⌝ }
+{
+    number_to(s, from, b',', most)
 }
 
 // Field k, counted from 0; empty where there are fewer.

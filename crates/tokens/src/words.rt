@@ -8,8 +8,8 @@ ghost use Rattle.tokens.specs.Names.{Few};
 ghost use Rattle.tokens.specs.Look.{lookUp};
 ghost use Rattle.model.specs.Word.{capital, spells, placeIn, wordOf, variableOf, qualifierOf, schemeOf, operationOf};
 use crate::fields;
-use crate::numbers;
 use model::Field;
+use numbers::number_in;
 
 // Whether both have the same bytes.
 pub fn same(s: &[u8], t: &[u8]) -> bool
@@ -127,7 +127,7 @@ fn variable_in(words: usize, s: &[u8]) -> Field
     if s[0] != b'g' {
         return Field::NoValue;
     }
-    match numbers::number_in(&s[1..], 63) {
+    match number_in(&s[1..], 63) {
         Field::Value(k) => Field::Value(k + words as u32),
         Field::NoValue => Field::NoValue,
     }

@@ -1,10 +1,11 @@
 -- The values of the line are, at each turn, those so far with those of the fields not yet read.
-use Prim.Native.Nat.{_-_}
+use Prim.Native.Nat.{_-_, _≤_}
+use native.Mathlib.Omega.{arith}
 use borrow.Author.Needs.{needs}
 use lib.ListN.{length}
 use Rattle.model.specs.Line.{fields}
-use Rattle.tokens.proofs.Bounds.{field-fits, code-fits}
-use Rattle.tokens.proofs.Reading.{Reading, reads}
+use Rattle.tokens.proofs.Bounds.{value-within, field-fits, code-fits}
+use Rattle.tokens.proofs.Reading.{Reading, read-first, read-end, read-short, read-missing, read-number, read-literal, read-code}
 use Rattle.tokens.proofs.values.read.Statement.{statement}
 use Rattle.tokens.proofs.values.read.Tie as tie
 
@@ -20,30 +21,27 @@ read-spec =
     (tie.spec
     Inv-loop
     μ-loop
-    (λ c. search (reads, needs))
-    (λ c. search (reads, needs))
+    (λ c κs. search needs)
+    (λ c. search (read-first, needs))
+    (λ c. search needs)
+    (λ c. search (read-short, needs))
     (λ c κs. search needs)
     (λ c. search needs)
     (λ c. search needs)
-    (λ c. search needs)
-    (λ c. search needs)
-    (λ c κs. search needs)
-    (λ c. search needs)
-    (λ c. search needs)
-    (λ c. search (reads, needs))
-    (λ c. search needs)
+    (λ c. search (read-missing, needs))
+    (λ c. let within : c .before .n .given .0 .1 .0 ≤ length (c .before .before .before .before .before .before .before .before .before .before .before .before .args .s .now) = value-within (c .before .before .before .before .before .before .before .before .before .before .before .before .args .names .now) _ _ _ _ _ _ (c .before .before .before .value .ensures) (c .before .n .given .1) (c .before .before .before .before .if1 .left) in omega arith)
     (λ c. search (field-fits, needs))
     (λ c. search needs)
     (λ c. search needs)
     (λ c. search needs)
     (λ c. search needs)
-    (λ c. search (reads, needs))
+    (λ c. read-number _ _ _ _ _ _ _ (c .before .before .before .before .before .before .before .before .loop .inv) (c .before .before .before .before .before .before .before .loop-test .taken) (c .before .before .before .before .before .if1 .left) _ (c .before .before .before .before .value .ensures) _ _ (c .before .before .n .given .1) (c .match2 .keys1))
     (λ c. search needs)
     (λ c. search needs)
-    (λ c. search (reads, needs))
+    (λ c. read-literal _ _ _ _ _ _ _ (c .before .before .before .before .before .before .before .before .loop .inv) (c .before .before .before .before .before .before .before .loop-test .taken) (c .before .before .before .before .before .if1 .left) _ (c .before .before .before .before .value .ensures) _ _ (c .before .before .n .given .1) (c .match2 .keys2))
     (λ c. search (code-fits, needs))
     (λ c. search needs)
     (λ c. search needs)
     (λ c. search needs)
-    (λ c. search (reads, needs))
-    (λ c. search (reads, needs)))
+    (λ c. read-code _ _ _ _ _ _ _ (c .before .before .before .before .before .before .before .before .loop .inv) (c .before .before .before .before .before .before .before .loop-test .taken) (c .before .before .before .before .before .if1 .left) _ (c .before .before .before .before .value .ensures) _ _ (c .before .before .n .given .1) (search needs) (search needs))
+    (λ c. search (read-end, needs)))

@@ -1,0 +1,4 @@
+pub mod Feeding
+pub mod Ends
+pub mod Passes
+pub mod OnePass
