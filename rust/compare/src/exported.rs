@@ -5,6 +5,14 @@
 /// The functions as the libraries declare them.
 mod raw {
     extern "C" {
+        pub fn number_answers(
+            bytes: *const u8,
+            bytes_length: usize,
+            most: u32,
+            answers: *mut u64,
+            answers_length: usize,
+        ) -> usize;
+
         pub fn read_line(
             line: *const u8,
             line_length: usize,
@@ -51,6 +59,16 @@ mod raw {
             answers_length: usize,
         ) -> usize;
     }
+}
+
+/// Feeds the bytes to one reader of numbers and writes its answer before the first byte and after each.
+///
+/// An answer is a number up to `most`, or 2^32 for none. It returns how many were written: one more
+/// than there are bytes, or 0 where the buffer is shorter.
+pub fn number_answers(bytes: &[u8], most: u32, answers: &mut [u64]) -> usize {
+    let (buffer, length) = (answers.as_mut_ptr(), answers.len());
+    // SAFETY: both slices are valid for their lengths during the call, and only `answers` is written.
+    unsafe { raw::number_answers(bytes.as_ptr(), bytes.len(), most, buffer, length) }
 }
 
 /// Reads a line and writes its six numbers; returns 6, or 0 where the buffer is shorter.

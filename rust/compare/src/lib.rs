@@ -20,5 +20,6 @@ pub mod well_formed;
 pub mod words;
 
 pub use exported::{
-    placement_report, placement_report_under, placement_session, read_line, run_calls, session_lent,
+    number_answers, placement_report, placement_report_under, placement_session, read_line,
+    run_calls, session_lent,
 };
