@@ -11,7 +11,7 @@ use Rattle.scheme.specs.Six.{sixTable}
 use Rattle.scheme.proofs.Six.{six-sound}
 use Rattle.schemes.specs.Schemes.{Kept}
 use Rattle.model.specs.Lists.{contains, bytes}
-use Rattle.model.specs.Number.{decimal}
+use Rattle.model.specs.Number.{numberOf, decimal}
 use Rattle.model.specs.Word.{qualifierWords, capitals, wordOf, qualifierOf, qualifierWord}
 use Rattle.model.specs.Line.{field, lineOf}
 use Rattle.model.specs.Machine.{Machine, freshMachine, paramAt}
@@ -27,6 +27,7 @@ use Rattle.model.specs.Report.{line, report}
 use Rattle.model.specs.Session.{Call, add, redeclare, take-back, infer, Outcome, returning, Infers, Answers, adds, redeclares, takes-back, Session}
 use Rattle.model.specs.Text.{linesOf, Prints, Returns, ReturnsUnder}
 use Rattle.conversation.specs.Script.{commandOf, Makes, Replies, Conversation, largest, Responds}
+use Rattle.model.specs.declared.Field.{Field}
 use Rattle.model.specs.declared.Field.the-variants.{Value}
 use Rattle.model.specs.declared.Line.the-variants.{NoForm}
 use Rattle.model.proofs.Answers.{session-same}
@@ -35,6 +36,10 @@ use Rattle.model.proofs.LongFiles.{opened-front}
 use Rattle.dryrun.specs.Run.{DryRuns}
 use Rattle.dryrun.specs.Run as Run
 use Rattle.conversation.proofs.Front.{reply-front}
+use Rattle.numbers.specs.OnePass.{Fed}
+use Rattle.numbers.specs.OnePass as OnePass
+use Rattle.numbers.specs.declared.Reader.{Reader}
+use Rattle.numbers.proofs.OnePass.{fed-answers}
 use Rattle.tokens.proofs.RoundTrip.{word-exactly}
 use Rattle.table.specs.Lists.{lists}
 use Rattle.table.specs.Called.{Called}
@@ -360,3 +365,8 @@ dry-run-never-stuck = never-stuck
 pub dry-run-ends : {m : Machine} {word : Slot → ℕ} {shape : Slot → Shape} → Accepted m word shape → (numbers : List ℕ) (budget : ℕ) →
     (o : Run.Outcome) × Runs (Tagged (ruling m)) budget (job m word numbers) nothingMade o × (steps (o .counts) ≤ budget)
 dry-run-ends accepted numbers budget = let (o, r) = always-ends accepted numbers budget in (o, r, runs-within r (omega arith))
+
+-- Document 02, g). "After any bytes it answers as the reader does for them as a whole field": a reader that was started and then fed these bytes, one by one, under every
+-- upper end. The steps and the answer are what the contracts of `Reader::start`, `feed` and `answer` say (numbers/proofs/OnePass.antt).
+pub one-pass : {s : List ℕ} {reader : Reader} (most : ℕ) {answer : Field} → Fed s reader → OnePass.Answers reader most answer → answer ≡ numberOf most s
+one-pass = fed-answers
