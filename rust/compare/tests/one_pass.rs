@@ -35,7 +35,8 @@ impl Tally {
         }
     }
 
-    /// Compares a value's digits: alone, behind zeros, and before and behind bytes around the digits.
+    /// Asks for a value by its digits, which is the number itself where it is small enough, and compares
+    /// the digits behind and before zeros and other bytes.
     fn compare_value(&mut self, value: u128) {
         let digits = value.to_string();
         for most in UPPER_ENDS {
@@ -74,6 +75,12 @@ fn proved(bytes: &[u8], most: u32) -> Vec<Option<u32>> {
 /// An answer as a number, if it is one.
 fn decoded(answer: u64) -> Option<u32> {
     (answer != NONE).then(|| u32::try_from(answer).expect("an answer is a number or none"))
+}
+
+/// 1 to 40 digits, of which the first may be 0.
+fn random_digits(random: &mut Random) -> Vec<u8> {
+    let length = random.between(1, 40);
+    (0..length).map(|_| b'0' + random.below(10) as u8).collect()
 }
 
 /// All strings of so many of these bytes.
@@ -164,9 +171,7 @@ fn digits_of_any_count_are_read_alike() {
     let mut random = Random::seeded(51);
     let mut tally = Tally::default();
     for _ in 0..GENERATED {
-        let length = random.between(1, 40);
-        let digits: Vec<u8> = (0..length).map(|_| b'0' + random.below(10) as u8).collect();
-        tally.compare(&digits);
+        tally.compare(&random_digits(&mut random));
     }
     tally.assert_each(1_000);
 }
@@ -176,10 +181,9 @@ fn digits_among_other_bytes_are_read_alike() {
     let mut random = Random::seeded(52);
     let mut tally = Tally::default();
     for _ in 0..GENERATED {
-        let length = random.between(1, 40);
-        let mut bytes: Vec<u8> = (0..length).map(|_| b'0' + random.below(10) as u8).collect();
+        let mut bytes = random_digits(&mut random);
         for _ in 0..random.between(1, 3) {
-            let place = random.below(length);
+            let place = random.below(bytes.len());
             bytes[place] = random.number() as u8;
         }
         tally.compare(&bytes);
