@@ -89,7 +89,7 @@ module _ (m : Machine) (w : WellFormed m) where
   }
 
   pub table_ready : Ready (table_of m)
-  table_ready = record { well_formed_lem = rw lists_table w; kept = bytes_kept w.schemes_sound }
+  table_ready = record { is_well_formed = rw lists_table w; kept = bytes_kept w.schemes_sound }
 
   few_words : words m.schemes ≤ 9
   few_words = sound_few w.schemes_sound

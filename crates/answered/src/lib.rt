@@ -1,4 +1,6 @@
 // Infer with a buffer of its own. Nothing calls it: its contract says that every table that is ready has an answer.
+#![tactic(auto)]
+
 ghost use Rattle.table.specs.Lists.{lists};
 ghost use Rattle.table.specs.Ready.{Ready};
 ghost use Rattle.answered.specs.Judgement.{HasJudgement};

@@ -1,4 +1,6 @@
 // The checks 2 to 8 of an add, over what each of them needs: how many entries stand, and whether the numbers that a term row names are free.
+#![tactic(auto)]
+
 ghost use Rattle.std.specs.Prelude.{◌≡◌, [], ◌∷◌, eqb, ltb, length};
 ghost use Rattle.model.specs.Lists.{all_of};
 ghost use Rattle.model.specs.Machine.{Machine, parts, first_failing, type_refusal, param_refusal, term_refusal};

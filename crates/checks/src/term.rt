@@ -8,7 +8,7 @@ ghost use Rattle.checks.specs.Sought.{named_by};
 use model::{Term, TermRow};
 
 // A row has at most two children.
-#[derive(Drop)]
+#[derive(Clone, Copy)]
 pub enum Children {
     Nothing,
     One(u16),
@@ -30,7 +30,7 @@ pub fn children_of(term: Term) -> Children
 }
 
 // What a row may name: a child, or the parameter that it binds.
-#[derive(Drop)]
+#[derive(Clone, Copy)]
 pub enum Sought {
     Child(u16),
     Binder(u16),

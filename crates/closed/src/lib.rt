@@ -1,4 +1,6 @@
 // The test whether the program that a table holds is closed, in one pass over the rows for each part of the condition.
+#![tactic(auto)]
+
 ghost use Rattle.std.specs.Prelude.{◌≡◌, ◌||◌, ℕ, ◌<◌, length};
 ghost use Rattle.model.specs.Lists.{all_of, contains};
 ghost use Rattle.model.specs.Machine.{binds, bound};

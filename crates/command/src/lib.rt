@@ -1,4 +1,6 @@
 // Reads a line of a script: which command it is, with the numbers that stand in it.
+#![tactic(auto)]
+
 ghost use Rattle.std.specs.Prelude.{◌≡◌, List, ℕ, ◌≤◌, length, take};
 ghost use Rattle.conversation.specs.Script.{begins, before_blank, redeclare_of, argument, after_blank, front_words, arguments_of, command_of};
 ghost use Rattle.command.specs.Said.{said, word_length};
@@ -14,7 +16,7 @@ const NUMBERS: usize = 65;
 pub const ARGUMENTS: usize = NUMBERS + 1;
 
 // A command. What an add, a scheme file and a run are given starts after the command's word and its blank: "add ", "schemes ", "run ".
-#[derive(Drop)]
+#[derive(Clone, Copy)]
 pub enum Command {
     Add,
     Redeclare(u32, u32),

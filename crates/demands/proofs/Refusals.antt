@@ -17,7 +17,7 @@ use Rattle.model.specs.declared.Term.TheVariants.{Lam, App, Op, Var, Num, Enc}
 use Rattle.model.specs.declared.Line.{Line}
 use Rattle.model.specs.declared.Line.TheVariants.{TypeLine, ParamLine, TermLine, NoForm}
 use Rattle.model.proofs.LongLines.{long_refused}
-use Rattle.demands.specs.Refusals.{read_by, Breaks, line_too_long, no_form, type_not_next, param_not_next, term_not_next, types_full, params_full, terms_full, part_not_below, type_not_declared, named_not_declared, param_not_declared, child_not_below, child_used, both_children, already_bound, no_term_row_lem, code_above}
+use Rattle.demands.specs.Refusals.{read_by, Breaks, line_too_long, no_form, type_not_next, param_not_next, term_not_next, types_full, params_full, terms_full, part_not_below, type_not_declared, named_not_declared, param_not_declared, child_not_below, child_used, both_children, already_bound, without_term_row, code_above}
 use Rattle.demands.proofs.Checks.{from_none, from_check, here, there, not_later}
 use Rattle.demands.proofs.Members.{and_cases, some_passes, one_passes, some_not_below, one_not_below}
 
@@ -154,9 +154,9 @@ module _ (m : Machine) where
   pub take_back_refused : ¬ ((taken_back m).number ≡ 0) → Breaks m take_back (taken_back m).number
   unfolding taken_back settled
   take_back_refused =
-      from_check (Breaks m take_back) 9 _ _ (λ e. no_term_row_lem (no_rows m.terms (ltb-false 0 (length m.terms) e)))
+      from_check (Breaks m take_back) 9 _ _ (λ e. without_term_row (no_rows m.terms (ltb-false 0 (length m.terms) e)))
       (from_none (Breaks m take_back))
 
   pub take_back_first : {n : ℕ} → Breaks m take_back n → First (taken_back m).number n
   unfolding taken_back settled
-  take_back_first (no_term_row_lem e) = not_later refl (here (rw e))
+  take_back_first (without_term_row e) = not_later refl (here (rw e))

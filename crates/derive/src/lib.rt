@@ -1,4 +1,6 @@
 // From what each scheme of a table supports: the order of the qualifiers, their meets, the greatest one and the highest of each operation.
+#![tactic(auto)]
+
 ghost use Rattle.std.specs.Prelude.{◌≡◌, false, ◌+◌, ◌<◌, ◌≤◌};
 ghost use Rattle.scheme.specs.Schemes.{SchemeTable};
 ghost use Rattle.derive.specs.Orders.{supports_at, wider_at, above_all, best, both_below, Members, Ordered, MeetsFound, HighestFound};
@@ -10,13 +12,13 @@ use scheme::{OPERATIONS, PAIRS, QUALIFIERS, SCHEMES};
 const PLACES: usize = OPERATIONS + 1;
 
 // Whether a scheme supports ADD, MUL, EQ, LT and GT.
-#[derive(Drop)]
+#[derive(Clone, Copy)]
 pub struct Bits {
     pub bits: [bool; OPERATIONS],
 }
 
 // What the solver reads of a scheme table: the meet of a and b stands at 9 * a + b. The number is 0, or 26 or 27 where some of this does not exist.
-#[derive(Drop)]
+#[derive(Clone, Copy)]
 pub struct Derived {
     pub meets: [u8; PAIRS],
     pub highest: [u8; OPERATIONS],

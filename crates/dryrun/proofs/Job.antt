@@ -55,9 +55,9 @@ module _ (S : Schemes) (m : Machine) (w : WellFormed m) (word : Slot → ℕ) (s
 
   unfolded_typed : (depth i : ℕ) → i < depth → i < length m.terms → Typed S s (unfolded m word depth i) (s.row i).qualifier (s.row i).type
   unfolding unfolded
-  unfolded_typed zero i h in_List = let z : ⊥ = omega arith in absurd z
-  unfolded_typed (suc depth) i h in_List =
-      row_typed (unfolded m word depth) i in_List (λ j below. unfolded_typed depth j (omega arith) (omega arith)) (term_at m i) (w.terms_stand i in_List) (rows_meet i in_List)
+  unfolded_typed zero i h in_list = let z : ⊥ = omega arith in absurd z
+  unfolded_typed (suc depth) i h in_list =
+      row_typed (unfolded m word depth) i in_list (λ j below. unfolded_typed depth j (omega arith) (omega arith)) (term_at m i) (w.terms_stand i in_list) (rows_meet i in_list)
 
   -- A leading parameter that is no ARROW has the type INT: for ANY the report's typing has INT.
   leading_int : (p : ℕ) → p < length m.params → ¬ (shape (param p) ≡ Shape.arrow) → (s.param p).type ≡ int
@@ -103,9 +103,9 @@ module _ (S : Schemes) (m : Machine) (w : WellFormed m) (word : Slot → ℕ) (s
     applied_typed : (depth i : ℕ) → i < depth → i < length m.terms → (e : Expression) (q : S.Q) → Typed S s e q (s.row i).type → (numbers : List ℕ) →
         ((p : ℕ) → contains p (leading_from m depth i) ≡ true → contains p (leading m) ≡ true) → HasType (applied word e (leading_from m depth i) numbers)
     unfolding leading_from
-    applied_typed zero i h in_List e q te numbers sub = let z : ⊥ = omega arith in absurd z
-    applied_typed (suc depth) i h in_List e q te numbers sub =
-        leads_typed depth i (λ j below. applied_typed depth j (omega arith) (omega arith)) (term_at m i) (w.terms_stand i in_List) (rows_meet i in_List) e q te numbers sub
+    applied_typed zero i h in_list e q te numbers sub = let z : ⊥ = omega arith in absurd z
+    applied_typed (suc depth) i h in_list e q te numbers sub =
+        leads_typed depth i (λ j below. applied_typed depth j (omega arith) (omega arith)) (term_at m i) (w.terms_stand i in_list) (rows_meet i in_list) e q te numbers sub
 
   pub job_typed : NoArrow m shape → 0 < length m.terms → (numbers : List ℕ) → HasType (job m word numbers)
   job_typed no_arrow some numbers =

@@ -19,7 +19,7 @@ use Rattle.dryrun.proofs.Same.{judged_closed}
 
 module _ {m : Machine} {word : Slot → ℕ} {shape : Slot → Shape} (accepted : Accepted m word shape) (numbers : List ℕ) where
   abbrev lawful : Lawful (ruling m)
-  lawful = sound_lawful m.schemes accepted.well_formed_lem.schemes_sound
+  lawful = sound_lawful m.schemes accepted.is_well_formed.schemes_sound
 
   greatest : GreatestTyping (ruling m) m word shape
   greatest = judged_accepted accepted.judged refl
@@ -27,7 +27,7 @@ module _ {m : Machine} {word : Slot → ℕ} {shape : Slot → Shape} (accepted 
   reached : {e : Expression} {made : Counts} → Reaches (Tagged (ruling m)) (job m word numbers) nothing_made e made → Sound (ruling m) lawful greatest.together.0 e
   reached r =
       reached_sound (ruling m) lawful greatest.together.0 r
-      (job_sound (ruling m) lawful m accepted.well_formed_lem (judged_closed accepted.judged refl) word shape greatest accepted.no_arrow numbers)
+      (job_sound (ruling m) lawful m accepted.is_well_formed (judged_closed accepted.judged refl) word shape greatest accepted.no_arrow numbers)
 
   -- "A run never meets two operands with different tags"
   pub never_two_tags : {e : Expression} {made : Counts} {t u : ℕ} → Reaches (Tagged (ruling m)) (job m word numbers) nothing_made e made → Meets e t u → t ≡ u

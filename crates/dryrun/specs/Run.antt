@@ -110,7 +110,7 @@ NoArrow m shape = (p : ℕ) → contains p (leading m) ≡ true → ¬ (shape (p
 
 -- An accepted job: infer accepts the program, and numbers may stand for its leading parameters.
 pub record Accepted (m : Machine) (word : Slot → ℕ) (shape : Slot → Shape) : Type 0 where
-  pub well_formed_lem : WellFormed m
+  pub is_well_formed : WellFormed m
   pub judged : Judged (ruling m) m 0 0 word shape
   pub no_arrow : NoArrow m shape
 

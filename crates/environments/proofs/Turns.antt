@@ -68,9 +68,9 @@ module _ (m : Machine) (w : WellFormed m) (word : Slot → ℕ) where
     binds_kept (Binds.a_number {j} {σ} h low plain rest) =
         rw (kept.param j h, kept.value j h, kept.tag j h)
         (Binds.a_number {j = j} {σ = σ} (omega arith) (rw (← kept.next j h) low) (rw (← kept.tag j h) plain) (rw (← kept.next j h) (binds_kept rest)))
-    binds_kept (Binds.a_function {j} {p} {b} {σ} {τ} h low is in_List lam none own rest) =
+    binds_kept (Binds.a_function {j} {p} {b} {σ} {τ} h low is in_list lam none own rest) =
         rw (kept.param j h)
-        (Binds.a_function {j = j} {p = p} {b = b} {σ = σ} {τ = τ} (omega arith) (rw (← kept.next j h) low) (rw (← kept.tag j h) is) (rw (← kept.value j h) in_List) (rw (← kept.value j h) lam) none
+        (Binds.a_function {j = j} {p = p} {b = b} {σ = σ} {τ = τ} (omega arith) (rw (← kept.next j h) low) (rw (← kept.tag j h) is) (rw (← kept.value j h) in_list) (rw (← kept.value j h) lam) none
         (rw (← kept.place j h) (binds_kept own)) (rw (← kept.next j h) (binds_kept rest)))
 
     pub means_kept : {tag n place : ℕ} {e : Expression} → Means m word c count tag n place e → Means m word c' count' tag n place e
@@ -101,12 +101,12 @@ module _ (m : Machine) (w : WellFormed m) (word : Slot → ℕ) where
   binds_low : {c : Cells} {count place : ℕ} {σ : Env} → Binds m word c count place σ → place ≤ count
   binds_low nothing = omega arith
   binds_low (Binds.a_number h low plain rest) = h
-  binds_low (Binds.a_function h low is in_List lam none own rest) = h
+  binds_low (Binds.a_function h low is in_list lam none own rest) = h
 
   binds_good : {c : Cells} {count place : ℕ} {σ : Env} → Binds m word c count place σ → Good σ
   binds_good nothing = good_none
   binds_good (Binds.a_number {j} {σ} h low plain rest) = good_extended _ _ σ (λ q. refl) (binds_good rest)
-  binds_good (Binds.a_function {j} {σ = σ} h low is in_List lam none own rest) = good_extended _ _ σ none (binds_good rest)
+  binds_good (Binds.a_function {j} {σ = σ} h low is in_list lam none own rest) = good_extended _ _ σ none (binds_good rest)
 
   pub means_value : {c : Cells} {count tag n place : ℕ} {e : Expression} → Means m word c count tag n place e → Value e
   unfolding close
@@ -161,9 +161,9 @@ module _ (m : Machine) (w : WellFormed m) (word : Slot → ℕ) where
       go σ at (Binds.a_number {j = k} h low plain rest) none =
           let same : k ≡ j = omega arith in
           rw (eq-eqb x (get_or c.param k 0) (cc (same, is))) (rw (← same) (Means.a_number plain))
-      go σ at (Binds.a_function {j = k} {p} {b} {τ = τ} h low tagged in_List lam closed own rest) none =
+      go σ at (Binds.a_function {j = k} {p} {b} {τ = τ} h low tagged in_list lam closed own rest) none =
           let same : k ≡ j = omega arith in
-          rw (eq-eqb x (get_or c.param k 0) (cc (same, is))) (rw (← same) (Means.a_function tagged in_List lam own))
+          rw (eq-eqb x (get_or c.param k 0) (cc (same, is))) (rw (← same) (Means.a_function tagged in_list lam own))
 
   -- No search of a run ends at place 0: the parameter would stand free.
   pub found_nowhere : (c : Cells) (count x j : ℕ) → Found c count 0 x j
@@ -172,7 +172,7 @@ module _ (m : Machine) (w : WellFormed m) (word : Slot → ℕ) where
       go : {place : ℕ} (σ : Env) → place ≡ 0 → Binds m word c count place σ → NoneFree (σ x) → Means m word c count (get_or c.tag j 0) (get_or c.value j 0) (get_or c.place j 0) (σ x)
       go σ at nothing none = absurd (false≢true (sym (none x) ∙ eq-eqb x x refl))
       go σ at (Binds.a_number h low plain rest) none = let z : ⊥ = omega arith in absurd z
-      go σ at (Binds.a_function h low is in_List lam closed own rest) none = let z : ⊥ = omega arith in absurd z
+      go σ at (Binds.a_function h low is in_list lam closed own rest) none = let z : ⊥ = omega arith in absurd z
 
   pub found_past : (c : Cells) (count j x k : ℕ) → ¬ (get_or c.param j 0 ≡ x) → Found c count (get_or c.next j 0) x k → Found c count (suc j) x k
   found_past c count j x k other rest = record { found = λ σ binds none. go σ refl binds none }
@@ -183,7 +183,7 @@ module _ (m : Machine) (w : WellFormed m) (word : Slot → ℕ) where
           let same : i ≡ j = omega arith in
           let off : eqb x (get_or c.param i 0) ≡ false = ne_eqb x (get_or c.param i 0) (λ e. other (cc (same, e))) in
           rw off (rest.found ρ (rw same at below) (rw off at none))
-      go σ at (Binds.a_function {j = i} {σ = ρ} h low tagged in_List lam closed own below) none =
+      go σ at (Binds.a_function {j = i} {σ = ρ} h low tagged in_list lam closed own below) none =
           let same : i ≡ j = omega arith in
           let off : eqb x (get_or c.param i 0) ≡ false = ne_eqb x (get_or c.param i 0) (λ e. other (cc (same, e))) in
           rw off (rest.found ρ (rw same at below) (rw off at none))

@@ -23,15 +23,15 @@ module _ {budget : ℕ} {c : Cells} {f : Frames} {p : Point} (u : Underway budge
 
   pub own_place : p.value ≡ false → p.place ≤ p.applications
   own_place ev =
-      row_place u.machine u.job.well_formed_lem u.word budget u.start u.job.safe
+      row_place u.machine u.job.is_well_formed u.word budget u.start u.job.safe
       (subst (λ (b : Bool). Standing u.machine u.word budget u.start c f b p.tag p.number p.place p.depth (counts_of p)) ev u.stands)
 
   module _ (some : 0 < p.depth) (ev : p.value ≡ true) where
     pub held_place : get_or f.kind (p.depth - 1) 0 ≡ called_kind → get_or f.place (p.depth - 1) 0 ≤ p.applications
-    held_place is = called_place u.machine u.job.well_formed_lem u.word budget u.start u.job.safe (top_stands u.machine u.word budget u.start c f p some ev u.stands) is
+    held_place is = called_place u.machine u.job.is_well_formed u.word budget u.start u.job.safe (top_stands u.machine u.word budget u.start c f p some ev u.stands) is
 
     pub kind_known : get_or f.kind (p.depth - 1) 0 < left_kind 5
-    kind_known = top_kind u.machine u.job.well_formed_lem u.word budget u.start u.job.safe (top_stands u.machine u.word budget u.start c f p some ev u.stands)
+    kind_known = top_kind u.machine u.job.is_well_formed u.word budget u.start u.job.safe (top_stands u.machine u.word budget u.start c f p some ev u.stands)
 
 module _ {term : Term} {own budget : ℕ} {c : Cells} {f : Frames} {p : Point} where
   pub by_row : {f' : Frames} {r : Turn} → p.value ≡ false → TurnsRow term own c f f' p r → Advances term own budget c f c f' p r

@@ -36,5 +36,5 @@ ends_over {m} {word} {budget} {start} {c} {f} {p} {r} job ev none st is = by (�
     st' = subst (λ (d : ℕ). Standing m word budget start c f true p.tag p.number p.place d (counts_of p)) none (rw ev at st)
 
     by : Dec (p.tag ≡ function_tag) → Runs (Tagged (ruling m)) budget start nothing_made (outcome r)
-    by (yes e) = rw (is, ← answers_function p.tag p.number e) (ends_with_function m job.well_formed_lem word budget start job.safe st' e)
-    by (no other) = rw (is, ← answers_number p.tag p.number other) (ends_with_number m job.well_formed_lem word budget start job.safe st' other)
+    by (yes e) = rw (is, ← answers_function p.tag p.number e) (ends_with_function m job.is_well_formed word budget start job.safe st' e)
+    by (no other) = rw (is, ← answers_number p.tag p.number other) (ends_with_number m job.is_well_formed word budget start job.safe st' other)

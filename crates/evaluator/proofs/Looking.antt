@@ -34,11 +34,11 @@ pub looked : (terms : List TermRow) (words : List ℕ) {m : Machine} {word : Slo
 looked terms words {m} {word} {budget} {start} {c} {f} {p} {r} job rows some st looks =
     record {
       at_row = λ ev.
-          let h = row_in_list m job.well_formed_lem word budget start job.safe (rw ev at st) in
-          let same = looks.own ev (omega (arith, job.well_formed_lem.terms_fit)) in
+          let h = row_in_list m job.is_well_formed word budget start job.safe (rw ev at st) in
+          let same = looks.own ev (omega (arith, job.is_well_formed.terms_fit)) in
           ((rows p.number h).0 ∙ ap (term_in terms) (sym same), (rows p.number h).1 ∙ ap (λ (i : ℕ). get_or words i 0) (sym same));
       at_called = λ ev ek.
-          let (tagged, h, x, b, lam) = called_function m job.well_formed_lem word budget start job.safe (top_stands m word budget start c f p (some ev) ev st) ek in
-          let same = looks.top ev (some ev) (omega (arith, job.well_formed_lem.terms_fit)) in
+          let (tagged, h, x, b, lam) = called_function m job.is_well_formed word budget start job.safe (top_stands m word budget start c f p (some ev) ev st) ek in
+          let same = looks.top ev (some ev) (omega (arith, job.is_well_formed.terms_fit)) in
           (rows (get_or f.value (p.depth - 1) 0) h).0 ∙ ap (term_in terms) (sym same);
     }

@@ -1,4 +1,6 @@
 // Makes the moves of a dry run, one after the other, until it is over or refused.
+#![tactic(auto)]
+
 ghost use Rattle.std.specs.Prelude.{◌≡◌, true, false, ◌&&◌, ℕ, ◌≤◌, ◌<◌, eqb};
 ghost use Rattle.moves.specs.Moves.{Framed, Celled, cells_of, frames_of};
 ghost use Rattle.evaluator.specs.Evaluation.{answer_of, Underway, Advances, Begun, LooksAt, Over, Evaluates};
@@ -9,7 +11,7 @@ use moves::operations::operate;
 use moves::{CALLED, CELLS, FRAMES, FUNCTION, Point, Turn, turn_round, turn_row};
 
 // A number with its tag, or that it is a function; nothing where the run was refused.
-#[derive(Drop)]
+#[derive(Clone, Copy)]
 pub enum Answer {
     Number(u32, u8),
     Function,
@@ -17,7 +19,7 @@ pub enum Answer {
 }
 
 // What a run came to, with the steps made. The refusal of a run that is over is 0.
-#[derive(Drop)]
+#[derive(Clone, Copy)]
 pub struct Ran {
     pub refusal: u8,
     pub applications: u16,

@@ -1,4 +1,6 @@
 // The floors of the parameters: the lowest parameter whose word is not at or above its floor.
+#![tactic(auto)]
+
 ghost use Rattle.std.specs.Prelude.{◌≤◌};
 ghost use Rattle.scheme.specs.Rule.{Lattice};
 ghost use Rattle.floors.specs.Lowest.{Worded, Lowest};
@@ -7,7 +9,7 @@ use model::{PARAMS, Param};
 use scheme::RULE;
 
 // The lowest parameter that misses its floor, or that none does.
-#[derive(Drop)]
+#[derive(Clone, Copy)]
 pub enum Missed {
     At(usize),
     Nowhere,

@@ -39,7 +39,7 @@ module _ (t : Table) (ready : Ready t) (codes : Codes) (solves : Solves (lists t
     same_floor = ap (λ (d : Param). d.floor) (sym (param_at_lem t p stands))
 
     floor_code : (param_in t.params p).floor < words m.schemes
-    floor_code = omega (arith, same_floor, (ready.well_formed_lem.params_stand p stands).2)
+    floor_code = omega (arith, same_floor, (ready.is_well_formed.params_stand p stands).2)
 
     word_code : get_or codes.paramwords p 0 < words m.schemes
     word_code = solves.0.worded (param p) stands
@@ -47,7 +47,7 @@ module _ (t : Table) (ready : Ready t) (codes : Codes) (solves : Solves (lists t
     -- the order by codes is the order of the qualifiers
     same_test : under R (param_in t.params p).floor (get_or codes.paramwords p 0) ≡ below m.schemes (code (qualifier (length m.schemes.names) (param_at m p).floor)) (code (qualifier (length m.schemes.names) (get_or codes.paramwords p 0)))
     same_test =
-        under_same ready.well_formed_lem.schemes_sound (ready_governed t ready).ruled _ _ floor_code word_code
+        under_same ready.is_well_formed.schemes_sound (ready_governed t ready).ruled _ _ floor_code word_code
         ∙ ap₂ (below m.schemes)
         (sym (code_qualifier (length m.schemes.names) _ floor_code) ∙ ap (λ (c : ℕ). code (qualifier (length m.schemes.names) c)) same_floor)
         (sym (code_qualifier (length m.schemes.names) _ word_code))

@@ -43,7 +43,7 @@ same_machine t a b d e f g = rw (e, f, g, take_taken t.typecount t.types, take_t
 -- The ruling of a table that is ready governs its machine.
 pub ready_governed : (t : Table) → Ready t → Governed t.schemes.rule (lists t)
 unfolding lists
-ready_governed t ready = record { ruled = ready.kept.ruled; well_formed_lem = ready.well_formed_lem }
+ready_governed t ready = record { ruled = ready.kept.ruled; is_well_formed = ready.is_well_formed }
 
 -- The names that the report is written with are the machine's.
 module _ (t : Table) (text : List ℕ) (is : text ≡ take t.schemes.size t.schemes.names) where
@@ -53,7 +53,7 @@ module _ (t : Table) (text : List ℕ) (is : text ≡ take t.schemes.size t.sche
 
   pub front_short : Ready t → Short (fields text)
   front_short ready =
-      let sound = ready.well_formed_lem.schemes_sound in
+      let sound = ready.is_well_formed.schemes_sound in
       rw (← front_names) (record { few = sound.few; short = sound_short sound })
 
 -- A refusal's three numbers, with the buffer as it was.

@@ -18,9 +18,9 @@ use Rattle.inference.specs.Printed.{Printed}
 use Rattle.inference.specs.declared.Inferred.{Inferred}
 use Rattle.inference.proofs.Corollaries.{reported_judged, infers_bounded}
 
-module _ (m : Machine) (buffer : List ℕ) (o : Inferred) (middle : List ℕ) (well_formed_lem : WellFormed m) (infers : Infers m buffer (outcome o middle)) where
+module _ (m : Machine) (buffer : List ℕ) (o : Inferred) (middle : List ℕ) (is_well_formed : WellFormed m) (infers : Infers m buffer (outcome o middle)) where
   pub print_bounded : (o.number ≤ 24) × (o.row ≤ 255) × (o.size ≤ 6280)
-  print_bounded = infers_bounded (well_formed_within m well_formed_lem) infers
+  print_bounded = infers_bounded (well_formed_within m is_well_formed) infers
 
   module _ (refused : ¬ (o.number ≡ 0)) where
     pub refusal_room : (word : List ℕ) → length word ≤ 2 → 6280 ≤ length middle → Room middle 0 (pair_text word o.number o.row)

@@ -1,4 +1,6 @@
 // Infer: the report of the program that stands in a table, or why there is none.
+#![tactic(auto)]
+
 ghost use Rattle.std.specs.Prelude.{◌≡◌, ℕ, ◌≤◌, ◌<◌, length};
 ghost use Rattle.model.specs.Closed.{Closed};
 ghost use Rattle.model.specs.Session.{Infers};
@@ -18,7 +20,7 @@ use table::Table;
 
 // What an infer call hands back beside the buffer: the report's length, or a refusal's number and row, or for 24 the parameter; 0 for what
 // there is not.
-#[derive(Drop)]
+#[derive(Clone, Copy)]
 pub struct Inferred {
     pub number: u16,
     pub row: usize,
@@ -26,7 +28,7 @@ pub struct Inferred {
 }
 
 // What is judged of a program: 0, or a refusal's number with its row, or for 24 its parameter; and the codes of its words and shapes.
-#[derive(Drop)]
+#[derive(Clone, Copy)]
 pub struct Verdict {
     pub number: u8,
     pub row: usize,

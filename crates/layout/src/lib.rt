@@ -1,4 +1,6 @@
 // The solver's nodes: which stand for what, how many places its arrays have, and what a kind says.
+#![tactic(auto)]
+
 ghost use Rattle.std.specs.Prelude.{◌≡◌, ℕ, ◌<◌, ◌≤◌};
 ghost use Rattle.layout.specs.Layout.{row_type, row_qualifier, descriptors};
 ghost use Rattle.layout.specs.Kinds.{arrow_kind};

@@ -41,11 +41,11 @@ module _ (m : Machine) (w : WellFormed m) (word : Slot → ℕ) (shape : Slot �
   pub going_none : (f : Frames) → Going m word shape numbers f (last_row m) 0
   going_none f = record { rest = refl; passed = omega arith; no_arrow = λ k h. let z : ⊥ = omega arith in absurd z; filled = λ k h. let z : ⊥ = omega arith in absurd z }
 
-  module _ (f : Frames) (row j : ℕ) (going : Going m word shape numbers f row j) (in_List : row < length m.terms) where
+  module _ (f : Frames) (row j : ℕ) (going : Going m word shape numbers f row j) (in_list : row < length m.terms) where
     -- At a row that is no LAM the leading LAMs are at their end.
     over : leading_of (leading_at m) (term_at m row) ≡ [] → length (leading m) ≡ j
     over none =
-        let left : length (leading m) - j ≡ 0 = sym (length-drop j (leading m)) ∙ ap length (going.rest ∙ row_leads m w row in_List ∙ none) in
+        let left : length (leading m) - j ≡ 0 = sym (length-drop j (leading m)) ∙ ap length (going.rest ∙ row_leads m w row in_list ∙ none) in
         omega (arith, going.passed)
 
     -- A number is left for no LAM.
@@ -55,7 +55,7 @@ module _ (m : Machine) (w : WellFormed m) (word : Slot → ℕ) (shape : Slot �
     module _ (p b : ℕ) (lam : term_at m row ≡ Lam p b) where
       -- What is left begins with the parameter of the LAM.
       next : drop j (leading m) ≡ p ∷ leading_at m b
-      next = going.rest ∙ row_leads m w row in_List ∙ ap (leading_of (leading_at m)) lam
+      next = going.rest ∙ row_leads m w row in_list ∙ ap (leading_of (leading_at m)) lam
 
       -- So a parameter is left.
       more : j < length (leading m)
@@ -81,7 +81,7 @@ module _ (m : Machine) (w : WellFormed m) (word : Slot → ℕ) (shape : Slot �
 
       -- A LAM's parameter is declared.
       pub declared : p < length m.params
-      declared = (subst (TermStands (words m.schemes) (length m.params) row) lam (w.terms_stand row in_List)).0
+      declared = (subst (TermStands (words m.schemes) (length m.params) row) lam (w.terms_stand row in_list)).0
 
       -- One number more.
       pub going_more : Framed f → j < length numbers → length numbers ≤ 256 → ¬ (shape (param p) ≡ Shape.arrow) → ¬ (word (param p) ≡ function_tag) →

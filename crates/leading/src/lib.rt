@@ -1,4 +1,6 @@
 // The numbers of a job: each is put as the frame that applies what stands inside to it, tagged with the reported word of its leading parameter.
+#![tactic(auto)]
+
 ghost use Rattle.std.specs.Prelude.{◌≡◌, ◌<◌, ◌≤◌};
 ghost use Rattle.moves.specs.Moves.{Framed, frames_of};
 ghost use Rattle.leading.specs.Leading.{LamsStand, AllLed, no_head, head_of};
@@ -11,7 +13,7 @@ use report::Codes;
 const ARROW: u8 = 1;
 
 // A row read as a LAM: whether it is one, its parameter and its body.
-#[derive(Drop)]
+#[derive(Clone, Copy)]
 struct Head {
     lam: bool,
     param: u16,

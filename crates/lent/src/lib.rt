@@ -1,4 +1,6 @@
 // A thin layer over the table's by-value calls: each is lent the table, and changes it where its owner holds it.
+#![tactic(auto)]
+
 ghost use Rattle.std.specs.Prelude.{◌≡◌};
 ghost use Rattle.model.specs.Machine.{added, redeclared, taken_back};
 ghost use Rattle.table.specs.Lists.{lists, change};

@@ -1,4 +1,6 @@
 // Reads a line: which of the ten forms its bytes are, with the numbers and codes that stand in it. A form's fields are told by one letter for the kind of each.
+#![tactic(auto)]
+
 mod forms;
 
 ghost use Rattle.std.specs.Prelude.{◌≡◌, ◌≤◌, length};

@@ -1,4 +1,6 @@
 // Parts a text into lines: where the next byte of a kind stands, and where a line ends.
+#![tactic(auto)]
+
 ghost use Rattle.std.specs.Prelude.{◌≡◌, ◌+◌, drop};
 ghost use Rattle.model.specs.Lists.{length_before};
 ghost use Rattle.lines.specs.Lines.{line_length};

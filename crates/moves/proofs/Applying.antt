@@ -28,12 +28,12 @@ entered p b =
 
 module _ {term : Term} {held budget : ℕ} {c : Cells} {p : Point} (some : 0 < p.depth) where
   pub spent_at : p.applications + p.operations ≡ budget → Applies term held budget c c p (Stop 30)
-  spent_at all m word start f job ek is eh ev st = stops (spent m job.well_formed_lem word budget start job.safe (top_stands m word budget start c f p some ev st) all)
+  spent_at all m word start f job ek is eh ev st = stops (spent m job.is_well_formed word budget start job.safe (top_stands m word budget start c f p some ev st) all)
 
   -- What is called is a function, and its row a LAM.
   no_lam : binds term ≡ [] → Applies term held budget c c p (Stop 30)
   no_lam none m word start f job ek is eh ev st =
-      let (tagged, in_List, x, b, lam) = called_function m job.well_formed_lem word budget start job.safe (top_stands m word budget start c f p some ev st) ek in
+      let (tagged, in_list, x, b, lam) = called_function m job.is_well_formed word budget start job.safe (top_stands m word budget start c f p some ev st) ek in
       let z : ◌≡◌ {A = ℕ} 1 0 = ap (λ (t : Term). length (binds t)) (sym lam ∙ is) ∙ ap length none in
       let no : ⊥ = omega arith in absurd no
 
@@ -56,7 +56,7 @@ module _ {term : Term} {held budget : ℕ} {c : Cells} {p : Point} (some : 0 < p
       p.applications < most_steps → Celled c → c' ≡ with_cell c p.applications x held p.tag p.number p.place → q ≡ entered p b → Applies term held budget c c' p (On q)
   bound_at {x} {b} {q} this unspent within deep low sized ec eq m word start f job ek is eh ev st =
       let bound = cell_bound c p.applications x held p.tag p.number p.place sized low in
-      let made = applies_on m job.well_formed_lem word budget start job.safe (top_stands m word budget start c f p some ev st)
+      let made = applies_on m job.is_well_formed word budget start job.safe (top_stands m word budget start c f p some ev st)
       {c' = with_cell c p.applications x held p.tag p.number p.place} {t' = p.tag} {j = p.applications} {p = x} {b = b}
       ek unspent (omega arith) (is ∙ this) (cell_kept c p.applications x held p.tag p.number p.place) refl
       bound.param (bound.next ∙ sym eh) bound.tag bound.value bound.place in
@@ -69,7 +69,7 @@ module _ {term : Term} {held budget : ℕ} {c : Cells} {p : Point} (some : 0 < p
           leads_on
           (subst (λ (n : ℕ). Standing m word budget start c' f false p.tag b n (p.depth - 1) (counts_of (entered p b))) next st')
           (step_remains budget (counts_of p) (counts_of (entered p b)) (point_weight f false b (p.depth - 1)) (point_weight f p.value p.number p.depth) (omega arith) (omega arith)
-          (standing_light m job.well_formed_lem word st' (omega arith)))
+          (standing_light m job.is_well_formed word st' (omega arith)))
           (omega arith)
 
   -- The same of the arrays that the code leaves.

@@ -25,18 +25,18 @@ resulted p tag n = record { value = true; tag = tag; number = n; place = 0; dept
 
 module _ {budget : ℕ} {f : Frames} {p : Point} (some : 0 < p.depth) where
   pub spent_before : p.applications + p.operations ≡ budget → Operates budget f p (Stop 30)
-  spent_before all m word start c job ev st = stops (spent m job.well_formed_lem word budget start job.safe (top_stands m word budget start c f p some ev st) all)
+  spent_before all m word start c job ev st = stops (spent m job.is_well_formed word budget start job.safe (top_stands m word budget start c f p some ev st) all)
 
   module _ {o result : ℕ} (low : p.depth ≤ suc most_contexts) (unspent : ¬ (p.applications + p.operations ≡ budget)) (above : left_kind 0 ≤ get_or f.kind (p.depth - 1) 0)
       (code : o ≡ get_or f.kind (p.depth - 1) 0 - left_kind 0) (is : result ≡ calculated o (get_or f.value (p.depth - 1) 0) p.number) where
     pub overflows_past : largest_number < result → Operates budget f p (Stop 29)
     overflows_past past m word start c job ev st =
-        stops (overflows_at m job.well_formed_lem word budget start job.safe (top_stands m word budget start c f p some ev st) o (omega arith) unspent (omega arith) (omega arith))
+        stops (overflows_at m job.is_well_formed word budget start job.safe (top_stands m word budget start c f p some ev st) o (omega arith) unspent (omega arith) (omega arith))
 
     pub operates_to : {t : ℕ} {q : Point} → p.applications + p.operations ≤ budget → result ≤ largest_number → t ≡ result_tag o p.tag → q ≡ resulted p t result → Operates budget f p (On q)
     operates_to {t} {q} within fits et eq m word start c job ev st =
         rw (eq, et, is)
-        (lands (operates_on m job.well_formed_lem word budget start job.safe (top_stands m word budget start c f p some ev st) o (omega arith) unspent (omega arith) (omega arith)))
+        (lands (operates_on m job.is_well_formed word budget start job.safe (top_stands m word budget start c f p some ev st) o (omega arith) unspent (omega arith) (omega arith)))
       where
         n : ℕ
         n = calculated o (get_or f.value (p.depth - 1) 0) p.number
@@ -46,5 +46,5 @@ module _ {budget : ℕ} {f : Frames} {p : Point} (some : 0 < p.depth) where
         lands st' =
             leads_on st'
             (step_remains budget (counts_of p) (counts_of (resulted p (result_tag o p.tag) n)) (point_weight f true n (p.depth - 1)) (point_weight f p.value p.number p.depth) (omega arith) (omega arith)
-            (standing_light m job.well_formed_lem word st' (omega arith)))
+            (standing_light m job.is_well_formed word st' (omega arith)))
             (omega arith)

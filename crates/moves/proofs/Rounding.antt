@@ -93,7 +93,7 @@ module _ (f : Frames) (p : Point) (some : 0 < p.depth) (low : p.depth ≤ suc mo
         let k : holding_kind kind ≡ called_kind = sym (holds_called kind is) in
         subst Resumes (sym (eq-eqb kind number_kind is))
         (at_depth true (get_or f.tag own 0) (get_or f.value own 0) (get_or f.place own 0)
-        (take_number m job.well_formed_lem word budget start job.safe st' is below (topped.kind ∙ k) topped.tag topped.value topped.place)
+        (take_number m job.is_well_formed word budget start job.safe st' is below (topped.kind ∙ k) topped.tag topped.value topped.place)
         (number_lighter f p.number (get_or f.value own 0) own below is (omega (arith, topped.kind, k))))
 
     by_row : ¬ (kind ≡ number_kind) → kind < number_kind → Standing m word budget start c after false (get_or f.tag own 0) (get_or f.value own 0) (get_or f.place own 0) (suc own) (counts_of p) →
@@ -107,13 +107,13 @@ module _ (f : Frames) (p : Point) (some : 0 < p.depth) (low : p.depth ≤ suc mo
     by_argument is =
         let other : ¬ (kind ≡ number_kind) = λ e. let z : ⊥ = omega arith in z in
         let k : holding_kind kind ≡ called_kind = sym (holds_other kind other) ∙ omega arith in
-        by_row other (omega arith) (take_argument m job.well_formed_lem word budget start job.safe st' is below (topped.kind ∙ k) topped.tag topped.value topped.place)
+        by_row other (omega arith) (take_argument m job.is_well_formed word budget start job.safe st' is below (topped.kind ∙ k) topped.tag topped.value topped.place)
 
     by_right : (o : ℕ) → kind ≡ right_kind o → o < 5 → Comes m word budget start f p c after (On (resumed f own p))
     by_right o is five =
         let other : ¬ (kind ≡ number_kind) = λ e. let z : ⊥ = omega arith in z in
         let k : holding_kind kind ≡ left_kind o = sym (holds_other kind other) ∙ omega arith in
-        by_row other (omega arith) (take_right m job.well_formed_lem word budget start job.safe st' is five below (topped.kind ∙ k) topped.tag topped.value topped.place)
+        by_row other (omega arith) (take_right m job.is_well_formed word budget start job.safe st' is five below (topped.kind ∙ k) topped.tag topped.value topped.place)
 
     by_kind : kind ≤ number_kind → Comes m word budget start f p c after (On (resumed f own p))
     by_kind few = go (ℕ_discrete kind number_kind) (ℕ_discrete kind argument_kind)

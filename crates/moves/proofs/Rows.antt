@@ -37,12 +37,12 @@ descended p x = record { value = false; tag = p.tag; number = x; place = p.place
 row_stands : {m : Machine} {word : Slot → ℕ} {budget : ℕ} {start : Expression} {c : Cells} {f : Frames} {p : Point} {term : Term} → Job m word start → Stands m word budget start c f p → p.value ≡ false →
     term_at m p.number ≡ term → TermStands (words m.schemes) (length m.params) p.number term
 row_stands {m} {word} {budget} {start} {p = p} job st ev is =
-    let w = job.well_formed_lem in
+    let w = job.is_well_formed in
     subst (TermStands (words m.schemes) (length m.params) p.number) is (w.terms_stand p.number (row_in_list m w word budget start job.safe (rw ev at st)))
 
 -- A literal's word is no tag of functions.
 word_tagged : {m : Machine} {word : Slot → ℕ} {budget : ℕ} {start : Expression} {c : Cells} {f : Frames} {p : Point} → Job m word start → Stands m word budget start c f p → p.value ≡ false → ¬ (word (row p.number) ≡ function_tag)
-word_tagged {m} {word} {budget} {start} {p = p} job st ev = job.tagged p.number (row_in_list m job.well_formed_lem word budget start job.safe (rw ev at st))
+word_tagged {m} {word} {budget} {start} {p = p} job st ev = job.tagged p.number (row_in_list m job.is_well_formed word budget start job.safe (rw ev at st))
 
 module _ (f : Frames) (p : Point) where
   value_falls : (budget tag n place : ℕ) → p.value ≡ false → left budget f (valued p tag n place) < left budget f p
@@ -60,32 +60,32 @@ module _ (f : Frames) (p : Point) where
 module _ {term : Term} {own : ℕ} {c : Cells} {f : Frames} {p : Point} (low : p.depth ≤ suc most_contexts) where
   pub on_lam : {x b : ℕ} {q : Point} → term ≡ Lam x b → q ≡ valued p function_tag p.number p.place → TurnsRow term own c f f p (On q)
   on_lam this eq m word budget start job is said ev st =
-      rw eq (leads_on (at_lam m job.well_formed_lem word budget start job.safe (rw ev at st) (is ∙ this)) (value_falls f p budget function_tag p.number p.place ev) low)
+      rw eq (leads_on (at_lam m job.is_well_formed word budget start job.safe (rw ev at st) (is ∙ this)) (value_falls f p budget function_tag p.number p.place ev) low)
 
   pub on_num : {n : ℕ} {q : Point} → term ≡ Num n → q ≡ valued p own n 0 → TurnsRow term own c f f p (On q)
   on_num {n} this eq m word budget start job is said ev st =
-      rw (eq, ← said) (leads_on (at_num m job.well_formed_lem word budget start job.safe (rw ev at st) (is ∙ this) (word_tagged job st ev)) (value_falls f p budget (word (row p.number)) n 0 ev) low)
+      rw (eq, ← said) (leads_on (at_num m job.is_well_formed word budget start job.safe (rw ev at st) (is ∙ this) (word_tagged job st ev)) (value_falls f p budget (word (row p.number)) n 0 ev) low)
 
   pub on_enc : {s n : ℕ} {q : Point} → term ≡ Enc s n → q ≡ valued p own n 0 → TurnsRow term own c f f p (On q)
   on_enc {s} {n} this eq m word budget start job is said ev st =
-      rw (eq, ← said) (leads_on (at_enc m job.well_formed_lem word budget start job.safe (rw ev at st) (is ∙ this) (word_tagged job st ev)) (value_falls f p budget (word (row p.number)) n 0 ev) low)
+      rw (eq, ← said) (leads_on (at_enc m job.is_well_formed word budget start job.safe (rw ev at st) (is ∙ this) (word_tagged job st ev)) (value_falls f p budget (word (row p.number)) n 0 ev) low)
 
   pub on_var : {x j : ℕ} {q : Point} → term ≡ Var x → Sought c.param c.next x p.place j →
       q ≡ valued p (get_or c.tag j 0) (get_or c.value j 0) (get_or c.place j 0) → TurnsRow term own c f f p (On q)
   on_var {x} {j} this sought eq m word budget start job is said ev st =
       rw eq
-      (leads_on (at_var m job.well_formed_lem word budget start job.safe (rw ev at st) (is ∙ this) (sought_found m job.well_formed_lem word c p.applications x sought))
+      (leads_on (at_var m job.is_well_formed word budget start job.safe (rw ev at st) (is ∙ this) (sought_found m job.is_well_formed word c p.applications x sought))
       (value_falls f p budget (get_or c.tag j 0) (get_or c.value j 0) (get_or c.place j 0) ev) low)
 
   pub deep_app : {x a : ℕ} → term ≡ App x a → most_contexts < p.depth → TurnsRow term own c f f p (Stop 30)
   deep_app this h m word budget start job is said ev st =
       let st' = rw ev at st in
-      stops (deep m job.well_formed_lem word budget start job.safe st' (app_open m job.well_formed_lem word budget start job.safe st' (is ∙ this)) h)
+      stops (deep m job.is_well_formed word budget start job.safe st' (app_open m job.is_well_formed word budget start job.safe st' (is ∙ this)) h)
 
   pub deep_op : {o l r : ℕ} → term ≡ Op o l r → most_contexts < p.depth → TurnsRow term own c f f p (Stop 30)
   deep_op this h m word budget start job is said ev st =
       let st' = rw ev at st in
-      stops (deep m job.well_formed_lem word budget start job.safe st' (op_open m job.well_formed_lem word budget start job.safe st' (is ∙ this)) h)
+      stops (deep m job.is_well_formed word budget start job.safe st' (op_open m job.is_well_formed word budget start job.safe st' (is ∙ this)) h)
 
   -- A row's operation is one of the five.
   pub no_op : {o l r : ℕ} → term ≡ Op o l r → 4 < o → TurnsRow term own c f f p (Stop 30)
@@ -101,7 +101,7 @@ module _ {term : Term} {own : ℕ} {c : Cells} {f : Frames} {p : Point} (low : p
       rw eq
       (leads_on {q = descended p x}
       (rw (ef, add-one)
-      (at_app m job.well_formed_lem word budget start job.safe (rw ev at st) (is ∙ this) (frame_below f p.depth argument_kind 0 a p.place) top.kind top.value top.place))
+      (at_app m job.is_well_formed word budget start job.safe (rw ev at st) (is ∙ this) (frame_below f p.depth argument_kind 0 a p.place) top.kind top.value top.place))
       (pushed_falls f p budget x a argument_kind ev hx ha ef (omega arith) sized h) (omega arith))
 
   pub on_op : {o l r : ℕ} {q : Point} {f' : Frames} → term ≡ Op o l r → Framed f → p.depth ≤ most_contexts → f' ≡ with_frame f p.depth (right_kind o) 0 r p.place → q ≡ descended p l →
@@ -112,7 +112,7 @@ module _ {term : Term} {own : ℕ} {c : Cells} {f : Frames} {p : Point} (low : p
       rw eq
       (leads_on {q = descended p l}
       (rw (ef, add-one)
-      (at_op m job.well_formed_lem word budget start job.safe (rw ev at st) (is ∙ this) (frame_below f p.depth (right_kind o) 0 r p.place) top.kind top.value top.place))
+      (at_op m job.is_well_formed word budget start job.safe (rw ev at st) (is ∙ this) (frame_below f p.depth (right_kind o) 0 r p.place) top.kind top.value top.place))
       (pushed_falls f p budget l r (right_kind o) ev hl hr ef (omega arith) sized h) (omega arith))
 
   -- The same of the arrays that the code leaves.

@@ -67,7 +67,7 @@ pub data Comes (m : Machine) (word : Slot → ℕ) (budget : ℕ) (start : Expre
 
 -- A run with its machine and its words: all that is known of it is that it is safe.
 pub record Job (m : Machine) (word : Slot → ℕ) (start : Expression) : Type 0 where
-  pub well_formed_lem : WellFormed m
+  pub is_well_formed : WellFormed m
   pub safe : Safe m start
   pub tagged : (i : ℕ) → i < length m.terms → ¬ (word (row i) ≡ function_tag)
 

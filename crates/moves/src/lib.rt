@@ -1,4 +1,6 @@
 // One move of a dry run, on arrays: a row that is looked at becomes a value or leads to a row beneath it, a value takes its place in a frame, or a step is made.
+#![tactic(auto)]
+
 ghost use Rattle.std.specs.Prelude.{◌≡◌, true, false, ℕ, suc, ◌+◌, ◌-◌, ◌<◌, ◌≤◌, eqb, set, get_or};
 ghost use Rattle.environments.specs.Kinds.{number_kind};
 ghost use Rattle.moves.specs.Moves.{holding_kind, Framed, Celled, TurnsRow, TurnsRound, cells_of, frames_of};
@@ -33,7 +35,7 @@ pub const CALLED: u8 = 7;
 pub const LEFT: u8 = 8;
 
 // What is looked at, a row to be run at a place of the cells, or a value; how many frames stand; the steps made.
-#[derive(Drop)]
+#[derive(Clone, Copy)]
 pub struct Point {
     pub value: bool,
     pub tag: u8,
@@ -44,7 +46,7 @@ pub struct Point {
     pub operations: u16,
 }
 
-#[derive(Drop)]
+#[derive(Clone, Copy)]
 pub enum Turn {
     On(Point),
     Stop(u8),

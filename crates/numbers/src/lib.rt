@@ -1,4 +1,6 @@
 // Reads decimal numbers without leading zeros in one pass: each byte is looked at once, and only the number so far and one mark are kept.
+#![tactic(auto)]
+
 ghost use Rattle.std.specs.Prelude.{[], ◌≡◌};
 ghost use Rattle.model.specs.Number.{number_of};
 ghost use Rattle.model.specs.declared.Field.TheVariants.{Value, NoValue};
@@ -15,14 +17,14 @@ const PAST: u64 = 4294967296;
 
 // What is kept of the bytes so far: the number that they are, or a number past every upper end where they are none and no further byte makes them one;
 // and whether there was a byte at all.
-#[derive(Drop)]
+#[derive(Clone, Copy)]
 pub struct Reader {
     number: u64,
     begun: bool,
 }
 
 // A value, and where its bytes end.
-#[derive(Drop)]
+#[derive(Clone, Copy)]
 pub enum Parsed {
     UpTo(u32, usize),
     Failed,

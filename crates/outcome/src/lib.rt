@@ -1,4 +1,6 @@
 // Writes the line of what a dry run came to into a lent buffer. The names of the schemes are parted by commas.
+#![tactic(auto)]
+
 ghost use Rattle.std.specs.Prelude.{[], ◌∷◌, ◌≡◌, ◌≤◌, length};
 ghost use Rattle.model.specs.Number.{decimal};
 ghost use Rattle.model.specs.Line.{fields};

@@ -1,4 +1,6 @@
 // Calls through the layer that lends the table, for callers that hold it by value: each function owns the table for one call and lends it.
+#![tactic(auto)]
+
 ghost use Rattle.std.specs.Prelude.{◌≡◌};
 ghost use Rattle.model.specs.Machine.{added, redeclared, taken_back};
 ghost use Rattle.table.specs.Lists.{lists, change};

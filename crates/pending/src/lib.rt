@@ -1,4 +1,6 @@
 // Pairs of a qualifier and an unknown type that stand together: once the type is an arrow the qualifier is PLAIN.
+#![tactic(auto)]
+
 pub mod gather;
 pub mod shapes;
 
@@ -13,7 +15,7 @@ use layout::{FIRST_ARROW, NODES, PENDING_PLACES, UNKNOWN};
 use scheme::RULE;
 
 // How a look at all pairs went: so many are left, or a scheme stands with an arrow.
-#[derive(Drop)]
+#[derive(Clone, Copy)]
 pub enum Sweep {
     Kept(usize),
     Apart,

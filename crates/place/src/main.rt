@@ -1,4 +1,6 @@
 // `place`: reads the lines of a table on standard input, and prints the report, or the refusal. A table that it did not read whole has no answer.
+#![tactic(auto)]
+
 use libc::{STDIN_FILENO, STDOUT_FILENO};
 use streams::Whole;
 

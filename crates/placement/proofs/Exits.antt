@@ -38,7 +38,7 @@ front_whole text h = sym (take_all 25025 text h)
 -- An infer call on what was loaded returns small numbers.
 pub bounded : (T : SchemeTable) (part buffer : List ℕ) (r : Loaded) (o : Inferred) (middle : List ℕ) → Loads T part r → Infers (lists r.table) buffer (outcome o middle) →
     (o.number ≤ 24) × (o.row ≤ 255) × (o.size ≤ 6280)
-bounded T part buffer r o middle loads infers = infers_bounded (well_formed_within _ loads.ready.well_formed_lem) infers
+bounded T part buffer r o middle loads infers = infers_bounded (well_formed_within _ loads.ready.is_well_formed) infers
 
 -- The loader's entry, which looks at the part of the text that decides.
 module _ {T : SchemeTable} (sound : Sound T) (text part buffer : List ℕ) (is : part ≡ take 25025 text) (r : Loaded) (loads : Loads T part r) where

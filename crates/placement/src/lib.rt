@@ -1,4 +1,6 @@
 // A whole text in, a report or a refusal out, and a whole script in, all answers out: what the key loader links, and what the program prints.
+#![tactic(auto)]
+
 ghost use Rattle.std.specs.Prelude.{◌≡◌, ◌≤◌, length, take};
 ghost use Rattle.scheme.specs.Six.{six_table};
 ghost use Rattle.schemes.specs.Schemes.{table_in, Kept};

@@ -1,4 +1,6 @@
 // Classes of qualifier nodes: made one, restricted, tested, and read off.
+#![tactic(auto)]
+
 ghost use Rattle.std.specs.Prelude.{◌≡◌, List, ℕ, ◌<◌, ◌≤◌, ltb, length};
 ghost use Rattle.layout.specs.Layout.{nodes};
 ghost use Rattle.scheme.specs.Rule.{words_at, top_at, under, Lattice};

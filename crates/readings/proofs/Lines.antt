@@ -41,10 +41,10 @@ form_same w v t t' x (Arrow q a q' b) st e = cc (e a st.1, e b st.3)
 module _ (m : Machine) (wf : WellFormed m) (v : ℕ → ℕ) where
   stable : (f g x : ℕ) → x < f → x < g → x < length m.types → fuel_type m v f x ≡ fuel_type m v g x
   unfolding fuel_type
-  stable zero g x h l in_List = let z : ⊥ = omega arith in absurd z
-  stable (suc f) zero x h l in_List = let z : ⊥ = omega arith in absurd z
-  stable (suc f) (suc g) x h l in_List =
-      form_same (words m.schemes) v (fuel_type m v f) (fuel_type m v g) x (type_at m x) (wf.types_stand x in_List)
+  stable zero g x h l in_list = let z : ⊥ = omega arith in absurd z
+  stable (suc f) zero x h l in_list = let z : ⊥ = omega arith in absurd z
+  stable (suc f) (suc g) x h l in_list =
+      form_same (words m.schemes) v (fuel_type m v f) (fuel_type m v g) x (type_at m x) (wf.types_stand x in_list)
       (λ y below. stable f g y (omega arith) (omega arith) (omega arith))
 
   pub line_type : ℕ → Ty ℕ

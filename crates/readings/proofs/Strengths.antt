@@ -98,13 +98,13 @@ module _ (m : Machine) (wf : WellFormed m) (k : ℕ) where
   -- A reading is a typing.
   pub some_erased : (t : ℕ → Ty ℕ) → Meets m k t (λ x. 0) → Typable (erased (ruling m)) m k
   some_erased t meets =
-      let follows = follows_of_meets m wf (λ c. 0) (blind m.schemes).Fits k t (λ x. 0) (λ c h. refl) (λ i below in_List o l r is. tt) meets in
+      let follows = follows_of_meets m wf (λ c. 0) (blind m.schemes).Fits k t (λ x. 0) (λ c h. refl) (λ i below in_list o l r is. tt) meets in
       (_, typing_erased m k (map_assignment (blind_erased m.schemes).image (assignment m t (λ x. 0))) (weaker_follows (blind_erased m.schemes) follows))
 
   pub some_unordered : (t : ℕ → Ty ℕ) (v : ℕ → ℕ) → Constant (words m.schemes) v → Meets m k t v → Plain m k t v → Typable (unordered (ruling m)) m k
   some_unordered t v constant meets plain =
       weaker_rules (loose_unordered m.schemes)
-      (assignment m t v, typing_of_meets m wf (coded m.schemes) (loose m.schemes).Fits k t v (λ c h. constant c h ∙ sym (coded_same m.schemes c h)) (λ i below in_List o l r is. tt) meets plain)
+      (assignment m t v, typing_of_meets m wf (coded m.schemes) (loose m.schemes).Fits k t v (λ c h. constant c h ∙ sym (coded_same m.schemes c h)) (λ i below in_list o l r is. tt) meets plain)
 
   -- With the ruling of the table, "at or below" in the rows is the table's.
   module _ (R : List ℕ) (rules : Ruled m.schemes R) where
@@ -122,7 +122,7 @@ module _ (m : Machine) (wf : WellFormed m) (k : ℕ) where
     row_fits s i (Enc e n) ρ st h = tt
 
     pub whole_fits : (s : Assignment (ruling m).Q) → Typing (whole (ruling m)) m k s → FitsAll R m k (whole_nodes m s)
-    whole_fits s typing i below in_List = row_fits s i (term_at m i) (s.row i) (wf.terms_stand i in_List) (typing.follows.rows_meet i below in_List)
+    whole_fits s typing i below in_list = row_fits s i (term_at m i) (s.row i) (wf.terms_stand i in_list) (typing.follows.rows_meet i below in_list)
 
     pub none_whole : ((t : ℕ → Ty ℕ) (v : ℕ → ℕ) → Constant (words m.schemes) v → Coded (words m.schemes) v → Meets m k t v → Plain m k t v → FitsAll R m k v → ⊥) → ¬ Typable (whole (ruling m)) m k
     none_whole none (s, typing) = none _ _ (nodes_constant s) (nodes_coded s) (whole_meets s typing) (whole_plain s typing) (whole_fits s typing)
@@ -140,7 +140,7 @@ module _ (m : Machine) (wf : WellFormed m) (k : ℕ) where
     whole_typing t v constant meets plain fits =
         weaker_typing (numbered_whole m.schemes sound)
         (typing_of_meets m wf (coded m.schemes) (numbered m.schemes).Fits k t v (λ c h. constant c h ∙ sym (coded_same m.schemes c h))
-        (λ i below in_List o l r is. op_fits v i (term_at m i) (wf.terms_stand i in_List) (fits i below in_List) o l r is) meets plain)
+        (λ i below in_list o l r is. op_fits v i (term_at m i) (wf.terms_stand i in_list) (fits i below in_list) o l r is) meets plain)
 
     pub some_whole : (t : ℕ → Ty ℕ) (v : ℕ → ℕ) → Constant (words m.schemes) v → Meets m k t v → Plain m k t v → FitsAll R m k v → Typable (whole (ruling m)) m k
     some_whole t v constant meets plain fits = (map_assignment (qualifier (length m.schemes.names)) (assignment m t v), whole_typing t v constant meets plain fits)

@@ -148,12 +148,12 @@ module _ (m : Machine) (wf : WellFormed m) (word : ℕ → ℕ) (Fits : ℕ → 
   module _ (fits : (i : ℕ) → i < k → i < length m.terms → (o l r : ℕ) → term_at m i ≡ Op o l r → Fits o (v (row_qualifier l))) where
     row_worded : (i : ℕ) (term : Term) → term_at m i ≡ term → i < k → i < length m.terms → TermStands (words m.schemes) (length m.params) i term →
         RowMeets (free m v) (assignment m t v) term ((assignment m t v).row i) → RowMeets worded (assignment m t v) term ((assignment m t v).row i)
-    row_worded i (Lam p b) is below in_List st h = (h.0 ∙ own 0 (omega arith), h.1)
-    row_worded i (App f a) is below in_List st h = h
-    row_worded i (Op o l r) is below in_List st h = (h.0, h.1, h.2, fits i below in_List o l r is, cc (h.4, own 0 (omega arith)), h.5)
-    row_worded i (Var p) is below in_List st h = h
-    row_worded i (Num n) is below in_List st h = h
-    row_worded i (Enc e n) is below in_List st h = (h.0 ∙ own e (omega (arith, st.1)), h.1)
+    row_worded i (Lam p b) is below in_list st h = (h.0 ∙ own 0 (omega arith), h.1)
+    row_worded i (App f a) is below in_list st h = h
+    row_worded i (Op o l r) is below in_list st h = (h.0, h.1, h.2, fits i below in_list o l r is, cc (h.4, own 0 (omega arith)), h.5)
+    row_worded i (Var p) is below in_list st h = h
+    row_worded i (Num n) is below in_list st h = h
+    row_worded i (Enc e n) is below in_list st h = (h.0 ∙ own e (omega (arith, st.1)), h.1)
 
     pub follows_of_meets : Meets m k t v → Follows worded m k (assignment m t v)
     follows_of_meets meets =

@@ -1,4 +1,6 @@
 // Writes the report of a typed program into a lent buffer, from the codes of its words and shapes. The names of the schemes are parted by commas.
+#![tactic(auto)]
+
 ghost use Rattle.std.specs.Prelude.{[], ◌∷◌, ◌++◌, ◌+◌, ◌≤◌, ◌<◌, length, take};
 ghost use Rattle.model.specs.Lists.{bytes};
 ghost use Rattle.model.specs.Number.{decimal};
@@ -12,7 +14,7 @@ ghost use Rattle.report.specs.Written.{Short, Written};
 use model::{PARAMS, TERMS, VARIABLES};
 
 // The code of a word for each named variable, 9 where it is not listed, and the codes of a word and a shape for each parameter and each term row.
-#[derive(Drop)]
+#[derive(Clone, Copy)]
 pub struct Codes {
     pub variables: [u8; VARIABLES],
     pub paramwords: [u8; PARAMS],
@@ -22,7 +24,7 @@ pub struct Codes {
 }
 
 // A word of the report: bytes that begin with it, and how many of them it has.
-#[derive(Drop)]
+#[derive(Clone, Copy)]
 struct Word([u8; 5], usize);
 
 // The room of eight words, since no scheme table has more names: eight bytes each, of which the last says how many its word has.

@@ -63,8 +63,8 @@ module _ {kids u k : List ℕ} {i a d : ℕ} (stands : (i < 256) × (a < i) × W
     under_result.classes,
     record {
       pairs =
-          noted_pairs next (omega (arith, one.next)) (omega arith) (omega (arith, stands.2.result_qualifier_lem))
-          (noted_pairs one (omega arith) (omega arith) (omega (arith, stands.2.argument_qualifier_lem)) (no_pairs u left right).pairs);
+          noted_pairs next (omega (arith, one.next)) (omega arith) (omega (arith, stands.2.has_result_qualifier))
+          (noted_pairs one (omega arith) (omega arith) (omega (arith, stands.2.has_argument_qualifier)) (no_pairs u left right).pairs);
       enough = omega (arith, one.next, next.next, roots_most u₂);
     },
   )
@@ -124,7 +124,7 @@ module _ {kids u k : List ℕ} {i a d : ℕ} (stands : (i < 256) × (a < i) × W
       (
         λ untouched pairs.
             local (row_type (i + 1)) (omega arith) (omega (arith, stands.2.argument_node)) (unused_hung untouched (omega arith) hung)
-            (noted_below next (omega arith) (omega (arith, stands.2.result_qualifier_lem)) (noted_below one (omega arith) (omega (arith, stands.2.argument_qualifier_lem)) pairs)),
+            (noted_below next (omega arith) (omega (arith, stands.2.has_result_qualifier)) (noted_below one (omega arith) (omega (arith, stands.2.has_argument_qualifier)) pairs)),
         steady quiet,
       ),
     )

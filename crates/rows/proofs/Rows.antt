@@ -26,7 +26,7 @@ use Rattle.rows.proofs.Watching.{watched_same, carried_same}
 
 -- The arrow of a descriptor, by its parts.
 pub arrow_parts : {kids : List ℕ} {d aq at rq rt : ℕ} → HasParts kids d aq at rq rt → (t : ℕ → Ty ℕ) (v : ℕ → ℕ) → arrow_of kids t v d ≡ arrow (v aq) (t at) (v rq) (t rt)
-arrow_parts parts t v = cc (parts.argument_qualifier_lem, parts.argument, parts.result_qualifier_lem, parts.result)
+arrow_parts parts t v = cc (parts.has_argument_qualifier, parts.argument, parts.has_result_qualifier, parts.result)
 
 -- A descriptor's parts lie where it says.
 pub parts_within : {kids : List ℕ} {n d aq at rq rt : ℕ} → HasParts kids d aq at rq rt → d < n → aq < qualifiers_from n → at < n → rq < qualifiers_from n → rt < n → Within n kids d
@@ -35,8 +35,8 @@ parts_within parts own aq at rq rt =
       own = own;
       argument_node = rw parts.argument at;
       result_node = rw parts.result rt;
-      argument_qualifier_lem = rw parts.argument_qualifier_lem aq;
-      result_qualifier_lem = rw parts.result_qualifier_lem rq;
+      has_argument_qualifier = rw parts.has_argument_qualifier aq;
+      has_result_qualifier = rw parts.has_result_qualifier rq;
     }
 
 -- A row went through that asks for E and no bound, and leaves the pending pairs as they were.
@@ -47,7 +47,7 @@ module _
     {i : ℕ}
     {R kids u k p b : List ℕ}
     {P : Pending}
-    (in_List : i < 256)
+    (in_list : i < 256)
     (types : TypeClasses (types_of u k))
     (classes : Classes R (qualifiers_of p b))
     (ready : Ready R i kids (types_of u k) (qualifiers_of p b) P) where

@@ -1,4 +1,6 @@
 // One row of the table, as a step of the solver: its types, then its qualifiers, then its bound.
+#![tactic(auto)]
+
 ghost use Rattle.std.specs.Prelude.{List, ℕ, ◌+◌, ◌<◌, length, ◌≡◌};
 ghost use Rattle.forest.specs.Pairs.{PairsIn, notes_of};
 ghost use Rattle.layout.specs.Layout.{row_type, row_qualifier, nodes, pending_places};
@@ -24,7 +26,7 @@ use scheme::RULE;
 use unification::Joining;
 
 // How a row's step went: fine, with so many pairs pending; or its types clash, and are as they were; or its types clash; or two constants meet; or one is above its bound.
-#[derive(Drop)]
+#[derive(Clone, Copy)]
 pub enum Verdict {
     Fine(usize),
     Shapes,

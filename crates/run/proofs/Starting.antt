@@ -62,13 +62,13 @@ module _ (t : Table) (ready : Ready t) (codes : Codes) (judged : Judged (ruling 
 
   -- A word is a qualifier's code, and these end at 8.
   word_low : (x : ℕ) → x < words m.schemes → ¬ (x ≡ function_tag)
-  word_low x h e = omega (arith, ready.well_formed_lem.schemes_sound.few)
+  word_low x h e = omega (arith, ready.is_well_formed.schemes_sound.few)
 
   pub some_row : 0 < length m.terms
   some_row = closed.some_row
 
   pub few_rows : length m.terms ≤ 256
-  few_rows = ready.well_formed_lem.terms_fit
+  few_rows = ready.is_well_formed.terms_fit
 
   pub rows_in : (i : ℕ) → i < length m.terms → term_at m i ≡ term_in t.terms i
   rows_in i h = ap (λ (r : TermRow). r.term) (row_at t i h)
@@ -76,8 +76,8 @@ module _ (t : Table) (ready : Ready t) (codes : Codes) (judged : Judged (ruling 
   pub lams_stand : {count : ℕ} → count ≡ length m.terms → LamsStand t.terms count
   lams_stand {count} counted i p b h is =
       let in_list : i < length m.terms = omega arith in
-      let (hp, hb) = subst (TermStands (words m.schemes) (length m.params) i) (rows_in i in_list ∙ is) (ready.well_formed_lem.terms_stand i in_list) in
-      (omega (arith, ready.well_formed_lem.params_fit), hb)
+      let (hp, hb) = subst (TermStands (words m.schemes) (length m.params) i) (rows_in i in_list ∙ is) (ready.is_well_formed.terms_stand i in_list) in
+      (omega (arith, ready.is_well_formed.params_fit), hb)
 
   pub led_rows : {count : ℕ} → count ≡ length m.terms → Leading.RowsIn m t.terms count
   led_rows {count} counted = record { counted = sym counted; same = λ i h. rows_in i (omega arith) }
@@ -97,7 +97,7 @@ module _ (t : Table) (ready : Ready t) (codes : Codes) (judged : Judged (ruling 
     led f false e leads = absurd (false≢true (sym e))
 
     pub few_numbers : length numbers ≡ length (leading m) → length numbers ≤ 256
-    few_numbers e = omega (arith, leading_most m ready.well_formed_lem)
+    few_numbers e = omega (arith, leading_most m ready.is_well_formed)
 
     -- 28
     pub unfit_refused : (budget : ℕ) {r : Ran} → Unfit m (coded_shape codes) numbers → r ≡ record { refusal = 28; applications = 0; operations = 0; answer = Nothing } → DryRuns m numbers budget (outcome r)
@@ -108,15 +108,15 @@ module _ (t : Table) (ready : Ready t) (codes : Codes) (judged : Judged (ruling 
       job_safe : Safe m (job m word numbers)
       job_safe =
           record {
-            goes = never_stuck (record { well_formed_lem = ready.well_formed_lem; judged = judged; no_arrow = no_arrow }) numbers;
-            none_free = never_free (record { well_formed_lem = ready.well_formed_lem; judged = judged; no_arrow = no_arrow }) numbers;
+            goes = never_stuck (record { is_well_formed = ready.is_well_formed; judged = judged; no_arrow = no_arrow }) numbers;
+            none_free = never_free (record { is_well_formed = ready.is_well_formed; judged = judged; no_arrow = no_arrow }) numbers;
           }
 
       -- The first point stands for the job, whatever the cells hold.
       pub begins : (steps : ℕ) (f : Frames) → Led m word numbers f → Begins m word t.terms codes.rowwords steps (job m word numbers) f (first_point (last_row m) (length numbers))
       begins steps f led =
           record {
-            job = record { well_formed_lem = ready.well_formed_lem; safe = job_safe; tagged = λ i h. word_low (word (row i)) (accepted.worded (row i) h) };
+            job = record { is_well_formed = ready.is_well_formed; safe = job_safe; tagged = λ i h. word_low (word (row i)) (accepted.worded (row i) h) };
             rows = λ i h. (rows_in i h, refl);
             stands = λ c.
                 let same : job m word numbers ≡ plug led.contexts (close variable (row_of m word (last_row m))) = sym (ap (plug led.contexts) (close_none (row_of m word (last_row m))) ∙ led.plugged) in

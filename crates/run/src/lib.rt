@@ -1,4 +1,6 @@
 // The dry run of the program that stands in a table.
+#![tactic(auto)]
+
 ghost use Rattle.std.specs.Prelude.{◌≡◌, ℕ, ◌≤◌, ◌<◌, min, length};
 ghost use Rattle.model.specs.Inference.{ruling, Judged};
 ghost use Rattle.table.specs.Lists.{lists};
@@ -101,7 +103,7 @@ pub fn write_answer(ran: Ran, answer: &mut [u32]) -> u32
 }
 
 // An answer's number and tag, and how it is told from the others.
-#[derive(Drop)]
+#[derive(Clone, Copy)]
 struct Value {
     number: u32,
     tag: u32,

@@ -75,7 +75,7 @@ pub record Sound (T : SchemeTable) : Type 0 where
   pub some : 1 ≤ length T.names
   pub few : length T.names ≤ 8
   pub named : all_of is_name T.names ≡ true
-  pub names_differ_lem : names_differ T ≡ true
+  pub names_apart : names_differ T ≡ true
   pub counted : length T.bits ≡ length T.names
   pub five : all_of (λ b. eqb (length b) 5) T.bits ≡ true
   pub differ : bits_differ T ≡ true

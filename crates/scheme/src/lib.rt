@@ -1,4 +1,6 @@
 // The qualifiers by their codes: the built-in six with PLAIN, what a code stands for, and the ruling of any scheme table.
+#![tactic(auto)]
+
 ghost use Rattle.std.specs.Prelude.{◌≡◌, ℕ, ◌<◌};
 ghost use Rattle.scheme.specs.Meet.{meet_of};
 ghost use Rattle.scheme.specs.Operation.{highest_of, result_of};
@@ -74,7 +76,7 @@ pub fn result(operation: u8, operands: u16) -> u16
 }
 
 // What the code of a qualifier in a line or a redeclare stands for.
-#[derive(Drop)]
+#[derive(Clone, Copy)]
 pub enum Standing {
     Word(u8),
     Variable(u8),

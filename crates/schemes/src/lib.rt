@@ -1,4 +1,6 @@
 // A scheme table as bytes: the built-in six, or what an owner's file gives.
+#![tactic(auto)]
+
 mod file;
 mod form;
 mod pairs;
@@ -19,7 +21,7 @@ use scheme::{OPERATIONS, RULE, SCHEMES};
 pub const NAMES: usize = 47;
 
 // A scheme table: the names parted by commas, what each scheme supports, and the ruling of these. Of each array as much stands as its count says.
-#[derive(Drop)]
+#[derive(Clone, Copy)]
 pub struct Schemes {
     pub names: [u8; NAMES],
     pub size: usize,
@@ -29,7 +31,7 @@ pub struct Schemes {
 }
 
 // What a file gives: its scheme table and 0, or the six and the number of the refusal.
-#[derive(Drop)]
+#[derive(Clone, Copy)]
 pub struct Opened {
     pub schemes: Schemes,
     pub number: u16,

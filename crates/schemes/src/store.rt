@@ -42,7 +42,7 @@ pub(crate) fn bits_of(file: &[u8], n: usize) -> [Bits; SCHEMES]
 }
 
 // Names parted by commas, in the first `size` bytes.
-#[derive(Drop)]
+#[derive(Clone, Copy)]
 pub(crate) struct Joined {
     pub names: [u8; NAMES],
     pub size: usize,

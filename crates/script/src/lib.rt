@@ -1,4 +1,6 @@
 // Answers scripts of commands: one line on a table, and a whole script from a fresh table.
+#![tactic(auto)]
+
 ghost use Rattle.std.specs.Prelude.{[], ◌∷◌, ◌≡◌, ◌+◌, ◌≤◌, min, length};
 ghost use Rattle.model.specs.Number.{decimal};
 ghost use Rattle.model.specs.Report.{line};
@@ -23,14 +25,14 @@ pub const LINE: usize = 730;
 const FILE: usize = 113;
 
 // How the calls that change the table are made.
-#[derive(Drop)]
+#[derive(Clone, Copy)]
 pub enum Layer {
     ByValue,
     Lent,
 }
 
 // After a line: the table for the next one, and the length of the answer, or of all answers so far.
-#[derive(Drop)]
+#[derive(Clone, Copy)]
 pub struct Turn {
     pub table: Table,
     pub size: usize,

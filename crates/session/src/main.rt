@@ -1,4 +1,6 @@
 // `session`: answers the commands on standard input line by line, as they come.
+#![tactic(auto)]
+
 ghost use Rattle.session.specs.Going.{Going};
 
 use libc::{STDIN_FILENO, STDOUT_FILENO};
@@ -7,7 +9,7 @@ use streams::Outcome;
 use table::Table;
 
 // A conversation: the table, the front of a line of which more may come, and whether it goes on.
-#[derive(Drop)]
+#[derive(Clone, Copy)]
 struct Talk {
     table: Table,
     line: [u8; script::LINE],

@@ -28,9 +28,9 @@ use Rattle.setup.specs.Passes.{DescribesForm, HasNodes, FormsStand, Only, FormsD
 pub zero_blank : {kids : List ℕ} → ((j : ℕ) → get_or kids j 0 ≡ 0) → (d : ℕ) → HasParts kids d 0 0 0 0
 zero_blank zero d =
     record {
-      argument_qualifier_lem = zero _;
+      has_argument_qualifier = zero _;
       argument = zero _;
-      result_qualifier_lem = zero _;
+      has_result_qualifier = zero _;
       result = zero _;
     }
 
@@ -41,9 +41,9 @@ Same d kids kids' = (j : ℕ) → j < 4 → part_at kids' d j ≡ part_at kids d
 parts_kept : {kids kids' : List ℕ} {d aq at rq rt : ℕ} → Same d kids kids' → HasParts kids d aq at rq rt → HasParts kids' d aq at rq rt
 parts_kept same has =
     record {
-      argument_qualifier_lem = same 0 (omega arith) ∙ has.argument_qualifier_lem;
+      has_argument_qualifier = same 0 (omega arith) ∙ has.has_argument_qualifier;
       argument = same 1 (omega arith) ∙ has.argument;
-      result_qualifier_lem = same 2 (omega arith) ∙ has.result_qualifier_lem;
+      has_result_qualifier = same 2 (omega arith) ∙ has.has_result_qualifier;
       result = same 3 (omega arith) ∙ has.result;
     }
 

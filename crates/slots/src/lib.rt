@@ -1,4 +1,6 @@
 // The slots of a report, filled from the words and kinds of the nodes.
+#![tactic(auto)]
+
 ghost use Rattle.std.specs.Prelude.{◌≡◌, ℕ, ◌+◌, ◌<◌, ◌≤◌, eqb, length, get_or, set, take};
 ghost use Rattle.layout.specs.Layout.{row_type, row_qualifier, nodes};
 ghost use Rattle.model.specs.Machine.{Machine, param_in};

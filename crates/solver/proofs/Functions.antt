@@ -95,20 +95,20 @@ module _ {R : List ℕ} {m : Machine} (wf : WellFormed m) {kids u k p b : List �
     -- The two pairs of a descriptor in use stand together, or it is blank.
     written_plain : (t : ℕ → Ty ℕ) (v : ℕ → ℕ) → ((q x : ℕ) → Stands m i q x → PlainAt t v q x) → (d : ℕ) → d < row_type i → Written m kids d →
         PlainAt t v (argument_qualifier kids d) (argument kids d) × PlainAt t v (result_qualifier kids d) (result kids d)
-    written_plain t v stands d below (blank parts) = (λ a s r w is. ap v parts.argument_qualifier_lem, λ a s r w is. ap v parts.result_qualifier_lem)
+    written_plain t v stands d below (blank parts) = (λ a s r w is. ap v parts.has_argument_qualifier, λ a s r w is. ap v parts.has_result_qualifier)
     written_plain t v stands d below (form h is parts) = (
-      at_nodes t v parts.argument_qualifier_lem parts.argument (stands _ _ (standing.argument h is)),
-      at_nodes t v parts.result_qualifier_lem parts.result (stands _ _ (standing.result h is)),
+      at_nodes t v parts.has_argument_qualifier parts.argument (stands _ _ (standing.argument h is)),
+      at_nodes t v parts.has_result_qualifier parts.result (stands _ _ (standing.result h is)),
     )
     written_plain t v stands d below (abstraction {i = j} at h is parts) =
         let st = subst (TermStands (words m.schemes) (length m.params) j) is (wf.terms_stand j h) in (
-          at_nodes t v parts.argument_qualifier_lem parts.argument (stands _ _ (param st.0)),
-          at_nodes t v parts.result_qualifier_lem parts.result (stands _ _ (row (omega (arith, st.1)) (omega (arith, st.1)))),
+          at_nodes t v parts.has_argument_qualifier parts.argument (stands _ _ (param st.0)),
+          at_nodes t v parts.has_result_qualifier parts.result (stands _ _ (row (omega (arith, st.1)) (omega (arith, st.1)))),
         )
     written_plain t v stands d below (application {i = j} at h is parts) =
         let st = subst (TermStands (words m.schemes) (length m.params) j) is (wf.terms_stand j h) in (
-          at_nodes t v parts.argument_qualifier_lem parts.argument (stands _ _ (row (omega (arith, st.1)) (omega (arith, st.1)))),
-          at_nodes t v parts.result_qualifier_lem parts.result (stands _ _ (row (omega arith) h)),
+          at_nodes t v parts.has_argument_qualifier parts.argument (stands _ _ (row (omega (arith, st.1)) (omega (arith, st.1)))),
+          at_nodes t v parts.has_result_qualifier parts.result (stands _ _ (row (omega arith) h)),
         )
 
     pub parts_plain : (t : ℕ → Ty ℕ) (v : ℕ → ℕ) → ((q x : ℕ) → Stands m i q x → PlainAt t v q x) → PartsPlain (types_of u k) kids t v

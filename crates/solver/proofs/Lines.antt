@@ -61,7 +61,7 @@ module _ {kids : List ℕ} {typecount : ℕ} {q ty : List ℕ} {paramcount : ℕ
     gov = of.governed
 
     wf : WellFormed m
-    wf = gov.well_formed_lem
+    wf = gov.is_well_formed
 
     -- The pairs of a type row that is an ARROW stand in the machine's lines.
     form_stands : (d : ℕ) (form : TypeForm) → d < length m.types → type_at m d ≡ form → 2 ≤ form_kind d form →
@@ -70,8 +70,8 @@ module _ {kids : List ℕ} {typecount : ℕ} {q ty : List ℕ} {paramcount : ℕ
     form_stands d Any h is many = absurd (omega arith)
     form_stands d (Arrow s a s' c) h is many =
         let parts = begun.described.types d h s a s' c is in (
-          subst₂ (Stands m 0) (sym parts.argument_qualifier_lem) (sym parts.argument) (standing.argument h is),
-          subst₂ (Stands m 0) (sym parts.result_qualifier_lem) (sym parts.result) (standing.result h is),
+          subst₂ (Stands m 0) (sym parts.has_argument_qualifier) (sym parts.argument) (standing.argument h is),
+          subst₂ (Stands m 0) (sym parts.has_result_qualifier) (sym parts.result) (standing.result h is),
         )
 
     row_stands : (d : ℕ) → d < typecount → 2 ≤ kind_at k d → Stands m 0 (argument_qualifier kids d) (argument kids d) × Stands m 0 (result_qualifier kids d) (result kids d)
@@ -98,10 +98,10 @@ module _ {kids : List ℕ} {typecount : ℕ} {q ty : List ℕ} {paramcount : ℕ
     of_stands : (s x : ℕ) → Stands m 0 s x → LinePair k kids typecount q ty paramcount s x
     of_stands s x (standing.argument {t = d} h is) =
         let parts = begun.described.types d h _ _ _ _ is in
-        inl (subst₂ (FormPair k kids typecount) parts.argument_qualifier_lem parts.argument (lines.argument {d = d} (omega (arith, of.types)) (arrow_kind_lem d h is)))
+        inl (subst₂ (FormPair k kids typecount) parts.has_argument_qualifier parts.argument (lines.argument {d = d} (omega (arith, of.types)) (arrow_kind_lem d h is)))
     of_stands s x (standing.result {t = d} h is) =
         let parts = begun.described.types d h _ _ _ _ is in
-        inl (subst₂ (FormPair k kids typecount) parts.result_qualifier_lem parts.result (lines.result {d = d} (omega (arith, of.types)) (arrow_kind_lem d h is)))
+        inl (subst₂ (FormPair k kids typecount) parts.has_result_qualifier parts.result (lines.result {d = d} (omega (arith, of.types)) (arrow_kind_lem d h is)))
     of_stands s x (standing.param {p = j} h) =
         let below : j < paramcount = omega (arith, of.params) in
         inr (subst₂ (ParamPair q ty paramcount) (of.noted.qualifier j (small j below)) (of.noted.typerow j (small j below)) (lines.param {p = j} below))

@@ -34,4 +34,4 @@ module _ {R qs tys : List ℕ} {m : Machine} {i : ℕ} {term : Term} (row : RowO
 
     pub described_next : Described m kids → Described m kids'
     described_next described =
-        described_kept m kids kids' row.governed.well_formed_lem.types_fit described only.parts (forms_kept_more kids kids kids' i (forms_kept_none kids) only) (written_next described.written)
+        described_kept m kids kids' row.governed.is_well_formed.types_fit described only.parts (forms_kept_more kids kids kids' i (forms_kept_none kids) only) (written_next described.written)

@@ -50,4 +50,4 @@ pub placed : {R : List ℕ} {m : Machine} {u k p b : List ℕ} (b' k' : List ℕ
 placed {R} {m} {u} {k} {p} {b} b' k' gov whole done g settled filled =
     let all = completed whole done in
     let solved = state_solved m gov all.kids u all.kinds p b k k' all.pending (bound_at b') all.parts all.ended g settled in
-    (greatest_as m filled.words filled.shapes (solved_greatest m gov.well_formed_lem R gov.ruled (bound_at b') (kind_at k') solved), filled.matches)
+    (greatest_as m filled.words filled.shapes (solved_greatest m gov.is_well_formed R gov.ruled (bound_at b') (kind_at k') solved), filled.matches)

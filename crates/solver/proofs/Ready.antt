@@ -85,13 +85,13 @@ module _ {m : Machine} (wf : WellFormed m) where
       record {
         in_list = omega (arith, wf.terms_fit);
         stands = stands_weaker (words m.schemes) (length m.params) i (term_at m i) (sound_few wf.schemes_sound) wf.params_fit (wf.terms_stand i h);
-        qualifier_node_lem = (param_nodes (parameter_of (term_at m i))).0;
+        is_qualifier_node = (param_nodes (parameter_of (term_at m i))).0;
         type_node = (param_nodes (parameter_of (term_at m i))).1;
       }
 
 pub row_ready : {R q ty : List ℕ} {m : Machine} {i : ℕ} {term : Term} → RowOf R m q ty i term → RowStands i term (node_named q term) (node_named ty term)
 row_ready {q = q} {ty} {m} {i} row =
-    let own = row_stands row.governed.well_formed_lem i row.in_list in
+    let own = row_stands row.governed.is_well_formed i row.in_list in
     let place = names_place 9 64 i (term_at m i) (omega arith) own.stands in
     subst (λ (t : Term). RowStands i t (node_named q t) (node_named ty t)) row.same_term
     (subst₂ (RowStands i (term_at m i)) (sym (row.noted.qualifier (parameter_of (term_at m i)) place)) (sym (row.noted.typerow (parameter_of (term_at m i)) place)) own)

@@ -61,7 +61,7 @@ pub record LinePairs (m : Machine) (k : List ℕ) (P : Pending) : Type 0 where
 
 module _ {R : List ℕ} {m : Machine} (gov : Governed R m) {kids u k p b : List ℕ} (described : Described m kids) (started : Started m (top_at R) (types_of u k) (qualifiers_of p b)) where
   wf : WellFormed m
-  wf = gov.well_formed_lem
+  wf = gov.is_well_formed
 
   lat : Lattice R
   lat = rule_lattice gov
@@ -86,7 +86,7 @@ module _ {R : List ℕ} {m : Machine} (gov : Governed R m) {kids u k p b : List 
       let parts = described.types x h q a q' c is in
       let same : x + 2 - 2 ≡ x = omega arith in (
         λ one. absurd (omega arith),
-        λ two. rw same (cc (e, meaning_node m t v q, meaning_node m t v q', parts.argument_qualifier_lem, parts.argument, parts.result_qualifier_lem, parts.result)),
+        λ two. rw same (cc (e, meaning_node m t v q, meaning_node m t v q', parts.has_argument_qualifier, parts.argument, parts.has_result_qualifier, parts.result)),
       )
 
   kind_agrees : (t : ℕ → Ty ℕ) (v : ℕ → ℕ) (x : ℕ) (form : TypeForm) → x < length m.types → type_at m x ≡ form →
@@ -97,7 +97,7 @@ module _ {R : List ℕ} {m : Machine} (gov : Governed R m) {kids u k p b : List 
       let parts = described.types x h q a q' c is in
       let same : x + 2 - 2 ≡ x = omega arith in
       let e = rw same at (two (omega arith)) in
-      cc (e, meaning_node m t v q, meaning_node m t v q', parts.argument_qualifier_lem, parts.argument, parts.result_qualifier_lem, parts.result)
+      cc (e, meaning_node m t v q, meaning_node m t v q', parts.has_argument_qualifier, parts.argument, parts.has_result_qualifier, parts.result)
 
   -- An arrow of a line names nodes below the first of the term rows'.
   arrow_within : (x : ℕ) (form : TypeForm) → x < length m.types → type_at m x ≡ form → 2 ≤ form_kind x form → WithinNodes 64 kids (form_kind x form - 2)
@@ -114,8 +114,8 @@ module _ {R : List ℕ} {m : Machine} (gov : Governed R m) {kids u k p b : List 
         own = omega arith;
         argument_node = omega (arith, parts.argument, stands.1);
         result_node = omega (arith, parts.result, stands.3);
-        argument_qualifier_lem = omega (arith, parts.argument_qualifier_lem, stands.0);
-        result_qualifier_lem = omega (arith, parts.result_qualifier_lem, stands.2);
+        has_argument_qualifier = omega (arith, parts.has_argument_qualifier, stands.0);
+        has_result_qualifier = omega (arith, parts.has_result_qualifier, stands.2);
       }
 
   pub classes_start : Classes R (qualifiers_of p b)
@@ -221,8 +221,8 @@ module _ {R : List ℕ} {m : Machine} (gov : Governed R m) {kids u k p b : List 
                 record {
                   few = omega (arith, swept.fewer, lines.few);
                   marks = swept.marks;
-                  qualifier_nodes = λ j h. let at = swept.from j h in omega (arith, at.1.qualifier, lines.nodes at.0 at.1.in_List);
-                  type_nodes = λ j h. let at = swept.from j h in omega (arith, at.1.type, lines.nodes at.0 at.1.in_List);
+                  qualifier_nodes = λ j h. let at = swept.from j h in omega (arith, at.1.qualifier, lines.nodes at.0 at.1.in_list);
+                  type_nodes = λ j h. let at = swept.from j h in omega (arith, at.1.type, lines.nodes at.0 at.1.in_list);
                 };
             plain = λ v link j r h class.
                 let at = swept.unknown j h in
@@ -272,7 +272,7 @@ module _ {R : List ℕ} {m : Machine} (gov : Governed R m) {kids u k p b : List 
             outof = λ t v reads link. lines_met t v reads;
             bounds_into = λ v coded link fits. swept.imposed.bounds_into refl v link (top_bounded v (λ x h. omega (arith, coded x h, gov.ruled.words_same)));
             bounds_outof = λ v link bounded i below h. let z : ⊥ = omega arith in absurd z;
-            sound = λ j h. let at = swept.from j h in subst₂ (Stands m 0) (sym at.1.qualifier) (sym at.1.type) (lines.sound at.0 at.1.in_List);
+            sound = λ j h. let at = swept.from j h in subst₂ (Stands m 0) (sym at.1.qualifier) (sym at.1.type) (lines.sound at.0 at.1.in_list);
             covers = λ t v reads link plain q x stands.
                 let all = gathered_plain t v reads link plain in
                 either (lines.complete q x stands)

@@ -34,7 +34,7 @@ use Rattle.solver.proofs.Progress.{Row}
 
 -- The ruling of a well-formed machine is lawful.
 pub rule_lattice : {R : List ℕ} {m : Machine} → Governed R m → Lattice R
-rule_lattice gov = lattice gov.well_formed_lem.schemes_sound gov.ruled
+rule_lattice gov = lattice gov.is_well_formed.schemes_sound gov.ruled
 
 -- The ruling has as many words as the machine's table.
 module _ {R : List ℕ} {m : Machine} (gov : Governed R m) (v : ℕ → ℕ) where
@@ -63,12 +63,12 @@ module _ {R : List ℕ} {m : Machine} (gov : Governed R m) {kids u k p b : List 
   module _ {n : ℕ} (after : After R m kids (types_of u k) (qualifiers_of p b) P n) where
     -- A state that has no reading leaves no typing at all.
     pub cyclic : ((t : ℕ → Ty ℕ) (v : ℕ → ℕ) → Reads (types_of u k) kids t v → ⊥) → ¬ Typable (erased (ruling m)) m n
-    cyclic none = none_erased m gov.well_formed_lem n (λ t v meets. none t v (after.reads t v meets))
+    cyclic none = none_erased m gov.is_well_formed n (λ t v meets. none t v (after.reads t v meets))
 
     -- A broken bound leaves no typing.
     pub broken_whole : ((v : ℕ → ℕ) → Constant (words_at R) v → Bounded R b v → ⊥) → ¬ Typable (whole (ruling m)) m n
     broken_whole none =
-        none_whole m gov.well_formed_lem n R gov.ruled
+        none_whole m gov.is_well_formed n R gov.ruled
         (λ t v constant coded meets plain fits. none v (of_words gov v constant) (after.bounds_into v coded (after.links t v meets plain) fits))
 
     module _ (parts : Parts kids) (unused : Unused (row_type n) (types_of u k) kids) (watched : Watched n (types_of u k) (qualifiers_of p b) P) (few : n ≤ 256) where
@@ -77,8 +77,8 @@ module _ {R : List ℕ} {m : Machine} (gov : Governed R m) {kids u k p b : List 
       finite_unordered all =
           let qs = some_reading after.classes in
           let ts = reading qs.0 (λ r. int) after.types parts all in
-          some_unordered m gov.well_formed_lem n ts.0 qs.0 (to_words gov qs.0 qs.2) (after.outof ts.0 qs.0 ts.1 qs.1)
-          (plain_ints gov.well_formed_lem after unused parts watched few ts.1 qs.1 ts.2)
+          some_unordered m gov.is_well_formed n ts.0 qs.0 (to_words gov qs.0 qs.2) (after.outof ts.0 qs.0 ts.1 qs.1)
+          (plain_ints gov.is_well_formed after unused parts watched few ts.1 qs.1 ts.2)
 
       -- Where every type is finite and no bound is broken there is a typing.
       pub finite_whole : AllFinite u k kids → Within R b → Typable (whole (ruling m)) m n
@@ -86,31 +86,31 @@ module _ {R : List ℕ} {m : Machine} (gov : Governed R m) {kids u k p b : List 
           let qs = greatest_reading after.classes within in
           let g = qs.1 in
           let ts = reading qs.0 (λ r. int) after.types parts all in
-          some_whole m gov.well_formed_lem n R gov.ruled ts.0 qs.0 (to_words gov qs.0 g.constant) (after.outof ts.0 qs.0 ts.1 g.linked)
-          (plain_ints gov.well_formed_lem after unused parts watched few ts.1 g.linked ts.2)
+          some_whole m gov.is_well_formed n R gov.ruled ts.0 qs.0 (to_words gov qs.0 g.constant) (after.outof ts.0 qs.0 ts.1 g.linked)
+          (plain_ints gov.is_well_formed after unused parts watched few ts.1 g.linked ts.2)
           (after.bounds_outof qs.0 g.linked g.bounded)
 
     -- A state that has a reading has only finite types.
     pub read_whole : Parts kids → Ready R n kids (types_of u k) (qualifiers_of p b) P → n ≤ 256 → {t : ℕ → Ty ℕ} {v : ℕ → ℕ} → Reads (types_of u k) kids t v → Typable (whole (ruling m)) m n
     read_whole parts ready few reads = finite_whole parts ready.types ready.watched few (finite_of_reading reads after.types parts) ready.within
 
-  module _ {i : ℕ} (in_List : i < length m.terms) (after : After R m kids (types_of u k) (qualifiers_of p b) P i) where
+  module _ {i : ℕ} (in_list : i < length m.terms) (after : After R m kids (types_of u k) (qualifiers_of p b) P i) where
     -- The row's types clash.
     pub clash_row : Clashes kids (types_of u k) (Row m i) → ¬ Typable (erased (ruling m)) m (i + 1)
     clash_row none =
-        none_erased m gov.well_formed_lem (i + 1)
-        (λ t v meets. none t v (after.reads t v (meets_fewer m t v i (i + 1) (omega arith) meets)) (meets_last m t v i in_List meets))
+        none_erased m gov.is_well_formed (i + 1)
+        (λ t v meets. none t v (after.reads t v (meets_fewer m t v i (i + 1) (omega arith) meets)) (meets_last m t v i in_list meets))
 
     module _ {u' k' : List ℕ} (apart : Parted R kids (types_of u k) p (types_of u' k') (PlainBefore P i) (Row m i)) where
       -- Two constants meet at the row.
       pub apart_row : ¬ Typable (unordered (ruling m)) m (i + 1)
       apart_row =
-          none_unordered m gov.well_formed_lem (i + 1)
+          none_unordered m gov.is_well_formed (i + 1)
           (λ t v constant meets plain.
           let fewer = meets_fewer m t v i (i + 1) (omega arith) meets in
           let functions = plain_fewer m t v i (i + 1) (omega arith) plain in
           apart.none t v (of_words gov v constant) (after.reads t v fewer) (after.links t v fewer functions)
-          (plain_before gov.well_formed_lem after t v (omega arith) fewer functions) (meets_last m t v i in_List meets))
+          (plain_before gov.is_well_formed after t v (omega arith) fewer functions) (meets_last m t v i in_list meets))
 
       pub apart_cyclic : ((t : ℕ → Ty ℕ) (v : ℕ → ℕ) → Reads (types_of u' k') kids t v → ⊥) → ¬ Typable (erased (ruling m)) m (i + 1)
       apart_cyclic none =
@@ -120,7 +120,7 @@ module _ {R : List ℕ} {m : Machine} (gov : Governed R m) {kids u k p b : List 
       apart_finite parts all =
           let ts = reading {Q = ℕ} (λ x. 0) (λ r. int) apart.types parts all in
           let before = apart.erased ts.0 ts.1 in
-          some_erased m gov.well_formed_lem (i + 1) ts.0 (meets_more m ts.0 (λ x. 0) i (after.outof ts.0 (λ x. 0) before.0 (λ x h. refl)) before.1)
+          some_erased m gov.is_well_formed (i + 1) ts.0 (meets_more m ts.0 (λ x. 0) i (after.outof ts.0 (λ x. 0) before.0 (λ x h. refl)) before.1)
 
 -- A reading with one qualifier for all.
 abbrev pub Readable : List ℕ → List ℕ → List ℕ → Type 0

@@ -32,7 +32,7 @@ use Rattle.solver.specs.declared.Answer.TheVariants.{Placed, Refused}
 -- R is the ruling of a well-formed machine.
 pub record Governed (R : List ℕ) (m : Machine) : Type 0 where
   pub ruled : Ruled m.schemes R
-  pub well_formed_lem : WellFormed m
+  pub is_well_formed : WellFormed m
 
 -- The rows up to k have no typing, and the number says why.
 abbrev pub Fails : Machine → ℕ → ℕ → Type 0

@@ -1,12 +1,14 @@
 // Reading and writing with failures told apart: a failed read is not the end of the input. A call that a signal broke off is made again at
 // once, and one that would have to wait, on a stream that does not wait, after a short pause.
+#![tactic(auto)]
+
 ghost use Rattle.std.specs.Prelude.{◌≤◌, length};
 ghost use Rattle.streams.specs.Reads.{ReadInto, FilledFrom};
 
 use libc::types::timespec;
 
 // What one read came to.
-#[derive(Drop)]
+#[derive(Clone, Copy)]
 pub enum Outcome {
     Bytes(usize),
     End,
@@ -14,7 +16,7 @@ pub enum Outcome {
 }
 
 // What reading up to the end of the input came to.
-#[derive(Drop)]
+#[derive(Clone, Copy)]
 pub enum Whole {
     Bytes(usize),
     Failed,

@@ -33,9 +33,9 @@ pub fresh_ready : {t : Table} (T : SchemeTable) → lists t ≡ fresh_machine T 
 unfolding lists
 fresh_ready {t} T fresh kept =
     let same : table_in t.schemes ≡ T = ap (λ (m : Machine). m.schemes) fresh in
-    record { well_formed_lem = subst WellFormed (sym fresh) (fresh_well_formed T (subst Sound same kept.sound)); kept = kept }
+    record { is_well_formed = subst WellFormed (sym fresh) (fresh_well_formed T (subst Sound same kept.sound)); kept = kept }
 
 -- What a call leaves of a table that is ready is ready.
 pub call_ready : {t : Table} {call : Call} {r : Answered} → Ready t → Called t call r → Ready r.table
 call_ready ready called =
-    record { well_formed_lem = answers_well_formed _ ready.well_formed_lem (call_follows called); kept = subst Kept (sym (call_keeps called)) ready.kept }
+    record { is_well_formed = answers_well_formed _ ready.is_well_formed (call_follows called); kept = subst Kept (sym (call_keeps called)) ready.kept }

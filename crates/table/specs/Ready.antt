@@ -5,5 +5,5 @@ use Rattle.table.specs.Lists.{lists}
 use Rattle.table.specs.declared.Table.{Table}
 
 pub record Ready (t : Table) : Type 0 where
-  pub well_formed_lem : WellFormed (lists t)
+  pub is_well_formed : WellFormed (lists t)
   pub kept : Kept t.schemes

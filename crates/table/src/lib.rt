@@ -1,4 +1,6 @@
 // The table of type rows, parameters and term rows, and the calls that change it, by value.
+#![tactic(auto)]
+
 ghost use Rattle.std.specs.Prelude.{◌≡◌, not, ◌&&◌, ◌≤◌, min, length, take};
 ghost use Rattle.model.specs.Lists.{any_of};
 ghost use Rattle.model.specs.Machine.{fresh_machine, children, binds, used, bound, twice, entered, added, redeclared, taken_back};
@@ -15,7 +17,7 @@ use model::{Line, Param, Term, TermRow, TypeForm, TypeRow};
 use schemes::Schemes;
 
 // The entries that stand are the first ones of each array, as many as its count says; they are read by the scheme table.
-#[derive(Drop)]
+#[derive(Clone, Copy)]
 pub struct Table {
     pub types: [TypeRow; Table::TYPES],
     pub params: [Param; Table::PARAMS],
@@ -27,7 +29,7 @@ pub struct Table {
 }
 
 // What a call hands back: the table, and the number of the refusal, or 0.
-#[derive(Drop)]
+#[derive(Clone, Copy)]
 pub struct Answered {
     pub table: Table,
     pub number: u16,

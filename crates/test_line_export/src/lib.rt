@@ -1,4 +1,6 @@
 // The line reader for callers outside Rattle, which take numbers and slices and no enum.
+#![tactic(auto)]
+
 ghost use Rattle.std.specs.Prelude.{◌≡◌, ◌++◌, ◌≤◌, length, drop};
 ghost use Rattle.test_line_export.specs.Encoding.{type_numbers, term_numbers, numbers, ReadInto};
 

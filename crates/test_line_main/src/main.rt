@@ -1,4 +1,6 @@
 // Reads the lines of standard input, and prints each with what it is read as.
+#![tactic(auto)]
+
 ghost use Rattle.std.specs.Prelude.{◌≤◌, length};
 
 use libc::{STDIN_FILENO, STDOUT_FILENO};

@@ -1,4 +1,6 @@
 // The reader of numbers for callers outside Rattle: one reader is fed all bytes, and asked before each of them and after the last.
+#![tactic(auto)]
+
 ghost use Rattle.std.specs.Prelude.{◌≡◌};
 ghost use Rattle.test_number_export.specs.Prefixes.{code_of, AnswersInto};
 

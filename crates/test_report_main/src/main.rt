@@ -1,4 +1,5 @@
 // Writes two reports and prints them: that of document 01's program A in full, and one of the greatest length by its length and its ends.
+#![tactic(auto)]
 
 use model::{PARAMS, TERMS, VARIABLES};
 use report::Codes;

@@ -1,4 +1,6 @@
 // A whole script answered through the layer that lends the table: what tests in Rust link.
+#![tactic(auto)]
+
 ghost use Rattle.conversation.specs.Script.{Responds};
 
 use script::Layer;

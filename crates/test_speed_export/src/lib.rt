@@ -1,4 +1,6 @@
 // A text's program inferred many times over: what the measure of speed links.
+#![tactic(auto)]
+
 ghost use Rattle.scheme.specs.Six.{six_table};
 ghost use Rattle.model.specs.Text.{Returns};
 ghost use Rattle.table.specs.Ready.{Ready};

@@ -1,4 +1,6 @@
 // The calls of a script on a table of its own, with what each returned and every entry afterwards as bytes: what tests in Rust link.
+#![tactic(auto)]
+
 ghost use Rattle.std.specs.Prelude.{◌≡◌, ℕ, ◌+◌, ◌≤◌, ◌<◌, min, length};
 ghost use Rattle.std.proofs.lemmas.List.Edits.{sets};
 ghost use Rattle.scheme.specs.Six.{six_table};

@@ -1,5 +1,7 @@
 // Calls on one table that reach each of their refusals. Each line printed has the number returned, then how many type rows, parameters and
 // term rows the table holds after the call.
+#![tactic(auto)]
+
 use libc::STDOUT_FILENO;
 use table::{Answered, Table};
 

@@ -94,7 +94,7 @@ module _ (schemes : Schemes) (table : Table) (empty : (lists table ≡ fresh_mac
   loads_same text r = subst (λ (s : Schemes). Loads (table_in s) text r) empty.1
 
 pub line_bound : (T : SchemeTable) (text : List ℕ) (table : Table) (from line : ℕ) → Left T text table from line → line ≤ 385
-line_bound T text table from line left = omega (arith, left.counted, entries_most (lists table) (well_formed_within (lists table) left.ready.well_formed_lem))
+line_bound T text table from line left = omega (arith, left.counted, entries_most (lists table) (well_formed_within (lists table) left.ready.is_well_formed))
 
 pub line_fits : (T : SchemeTable) (text : List ℕ) (table : Table) (from line : ℕ) → Left T text table from line → Fits w64 (line + 1)
 line_fits T text table from line left = omega (arith, line_bound T text table from line left)
@@ -204,7 +204,7 @@ module _ (T : SchemeTable) (names text : List ℕ) (from to : ℕ) (h : from < l
       term_fits = (term_room table own number accepted term term_checked).1
 
       pub term_within : Within term
-      term_within = passed_within (lists table) own term filling.left.ready.well_formed_lem.params_fit (term_passed (lists table) own term (sym term_checked ∙ accepted))
+      term_within = passed_within (lists table) own term filling.left.ready.is_well_formed.params_fit (term_passed (lists table) own term (sym term_checked ∙ accepted))
 
       pub term_turned : (used' bound' : List Bool) → (used' ≡ stores (children term) true used) × (bound' ≡ stores (binds term) true bound) →
           Filling T names text (with_terms table (set table.terms own (record { term = term })) (own + 1)) used' bound' (to + 1) (line + 1)

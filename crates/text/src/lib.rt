@@ -1,4 +1,6 @@
 // Adds the lines of a text in turn to a table of its own, up to the first that is refused.
+#![tactic(auto)]
+
 ghost use Rattle.std.specs.Prelude.{◌≡◌};
 ghost use Rattle.schemes.specs.Schemes.{table_in, Kept};
 ghost use Rattle.text.specs.Begins.{Begins};
@@ -11,7 +13,7 @@ use schemes::Schemes;
 use table::Table;
 
 // What the adds of a text came to: the table, and the number and the line of the add that was refused; 0 and 0 where none was.
-#[derive(Drop)]
+#[derive(Clone, Copy)]
 pub struct Loaded {
     pub table: Table,
     pub number: u16,

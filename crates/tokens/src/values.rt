@@ -16,7 +16,7 @@ const FIELDS: usize = 4;
 pub const NUMBER: u32 = 65535;
 
 // Whether the fields are those of the form, and their values: numbers and codes by the field, and the one literal that a form may have.
-#[derive(Drop)]
+#[derive(Clone, Copy)]
 pub struct Values {
     pub all: bool,
     pub number: [u16; FIELDS],

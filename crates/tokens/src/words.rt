@@ -55,7 +55,7 @@ pub fn spells(s: &[u8], word: &[u8]) -> bool
 }
 
 // A place among words: where one was found, or else the place after the last, which is how many there are.
-#[derive(Drop)]
+#[derive(Clone, Copy)]
 pub struct Place {
     pub found: bool,
     pub at: usize,

@@ -32,7 +32,7 @@ app-row-requires c κs =
     let row = a.requires.1.1.1.0 in
     let is = c.before.before.before.before.before.before.before.before.before.before.term.given.1 in
     let stands = rw is at row.0.stands in
-    (a.requires.0, (a.requires.1.0, (a.requires.1.1.0, ((row.0.in_List, stands.0, stands.1, rw is at row.1), a.requires.1.1.1.1))))
+    (a.requires.0, (a.requires.1.0, (a.requires.1.1.0, ((row.0.in_list, stands.0, stands.1, rw is at row.1), a.requires.1.1.1.1))))
 
 enum-known-term-2 : tie.Need-enum-known-term-2
 enum-known-term-2 c = search rules
@@ -48,7 +48,7 @@ op-row-requires c κs =
     let a = c.before.before.before.before.before.before.before in
     let row = a.requires.1.1.1.0 in
     let stands = rw c.before.before.before.before.before.term2.given.1 at row.0.stands in
-    (a.requires.0, (a.requires.1.1.0, ((row.0.in_List, stands.1, stands.2, stands.0), a.requires.1.1.1.1.qualifiers)))
+    (a.requires.0, (a.requires.1.1.0, ((row.0.in_list, stands.1, stands.2, stands.0), a.requires.1.1.1.1.qualifiers)))
 
 enum-known-term-3 : tie.Need-enum-known-term-3
 enum-known-term-3 c = search rules
@@ -76,7 +76,7 @@ put-under-root-requires : tie.Need-put-under-root-requires
 put-under-root-requires c κs =
     let a = c.before.before.before.before.before.before in
     let row = a.requires.1.1.1.0 in
-    (a.requires.0.forest, omega (arith, row.0.in_List, c.before.row-type2.ensures, rw c.before.before.before.before.term3.given.1 at row.0.type_node))
+    (a.requires.0.forest, omega (arith, row.0.in_list, c.before.row-type2.ensures, rw c.before.before.before.before.term3.given.1 at row.0.type_node))
 
 row-qualifier-requires : tie.Need-row-qualifier-requires
 row-qualifier-requires c κs = search rules
@@ -92,13 +92,13 @@ element-copy-out-put-under-root-2 c =
 cast-put-under-root-4 : tie.Need-overflow-cast-put-under-root-4
 cast-put-under-root-4 c =
     let row = c.before.before.before.before.before.before.before.before.before.before.requires.1.1.1.0 in
-    omega (arith, rw c.before.before.before.before.before.before.before.before.term3.given.1 at row.0.qualifier_node_lem)
+    omega (arith, rw c.before.before.before.before.before.before.before.before.term3.given.1 at row.0.is_qualifier_node)
 
 put-under-root-requires-2 : tie.Need-put-under-root-requires-2
 put-under-root-requires-2 c κs =
     let a = c.before.before.before.before.before.before.before.before.before.before in
     let row = a.requires.1.1.1.0 in
-    (a.requires.1.1.0.forest, omega (arith, row.0.in_List, c.before.row-qualifier.ensures, rw c.before.before.before.before.before.before.before.before.term3.given.1 at row.0.qualifier_node_lem))
+    (a.requires.1.1.0.forest, omega (arith, row.0.in_list, c.before.row-qualifier.ensures, rw c.before.before.before.before.before.before.before.before.term3.given.1 at row.0.is_qualifier_node))
 
 enum-told-2 : tie.Need-enum-told-2
 enum-told-2 c = search rules
@@ -126,7 +126,7 @@ returns c =
     let stands = rw is at row.0.stands in
     let known = rw (c.before.arrow.ensures, c.before.before.row_type.ensures) at c.known-row.ensures in
     rw is
-    (row_arrow row.0.in_List a.requires.0 a.requires.1.1.0 a.requires.1.1.1.1 known (rw is at row.1) (omega (arith, rw is at row.0.qualifier_node_lem)) (omega (arith, rw is at row.0.type_node)) (omega (arith, stands.1)) (omega (arith, stands.1)))
+    (row_arrow row.0.in_list a.requires.0 a.requires.1.1.0 a.requires.1.1.1.1 known (rw is at row.1) (omega (arith, rw is at row.0.is_qualifier_node)) (omega (arith, rw is at row.0.type_node)) (omega (arith, stands.1)) (omega (arith, stands.1)))
 
 returns-2 : tie.Need-returns-2
 returns-2 c = rw c.before.before.before.before.before.before.before.before.before.before.before.term.given.1 c.app-row.ensures
@@ -143,14 +143,14 @@ returns-4 c =
     let is = c.before.before.before.before.before.before.before.before.before.term3.given.1 in
     let type = rw c.before.before.before.before.before.before.row-type2.ensures at c.before.before.before.before.put-under-root.ensures in
     let qualifier = rw c.before.before.row-qualifier.ensures at c.put-under-root2.ensures in
-    rw is (row_same row.0.in_List a.requires.0 a.requires.1.1.0 a.requires.1.1.1.1 (omega (arith, rw is at row.0.qualifier_node_lem)) (rw is at row.0.type_node) type qualifier)
+    rw is (row_same row.0.in_list a.requires.0 a.requires.1.1.0 a.requires.1.1.1.1 (omega (arith, rw is at row.0.is_qualifier_node)) (rw is at row.0.type_node) type qualifier)
 
 returns-5 : tie.Need-returns-5
 returns-5 c =
     let a = c.before.before.before.before.before.before in
     let row = a.requires.1.1.1.0 in
     let known = rw c.before.row-qualifier2.ensures at c.known-row2.ensures in
-    rw c.before.before.before.before.enum-told2.given.1 (row_literal row.0.in_List a.requires.0 a.requires.1.1.0 a.requires.1.1.1.1 known)
+    rw c.before.before.before.before.enum-told2.given.1 (row_literal row.0.in_list a.requires.0 a.requires.1.1.0 a.requires.1.1.1.1 known)
 
 returns-6 : tie.Need-returns-6
 returns-6 c =
@@ -158,7 +158,7 @@ returns-6 c =
     let row = a.requires.1.1.1.0 in
     let is = c.before.before.before.before.term4.given.1 in
     let stands = rw is at row.0.stands in
-    rw is (row_int row.0.in_List a.requires.0 a.requires.1.1.0 a.requires.1.1.1.1 (omega (arith, stands.1)) c.known-row3.ensures)
+    rw is (row_int row.0.in_list a.requires.0 a.requires.1.1.0 a.requires.1.1.1.1 (omega (arith, stands.1)) c.known-row3.ensures)
 
 pub step_spec : {M : Type 1} → statement M
 step_spec =

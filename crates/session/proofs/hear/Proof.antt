@@ -42,7 +42,7 @@ returns-2 c = search (end_bound, end_fits, rules)
 
 add-from : tie.Need-overflow-add-from invariant-loop decreases-loop
 add-from c =
-    search (end_fits, c.before.before.before.before.before.before.before.before.before.before.well_formed_lem, c.before.before.before.before.before.before.before.before.before.shared-slice-known, c.before.before.before.before.before.before.before.before.before.shared-slice-known.given, c.before.before.before.before.before.before.before.loop-test.true, c.before.before.before.before.before.before.line-end.ensures)
+    search (end_fits, c.before.before.before.before.before.before.before.before.before.before.is_well_formed, c.before.before.before.before.before.before.before.before.before.shared-slice-known, c.before.before.before.before.before.before.before.before.before.shared-slice-known.given, c.before.before.before.before.before.before.before.loop-test.true, c.before.before.before.before.before.before.line-end.ensures)
 
 loop-less : tie.Need-loop-smaller invariant-loop decreases-loop
 loop-less c = search (end_bound, end_fits, rules)

@@ -18,12 +18,12 @@ take-lines-requires c κs =
     let start = c.before.before.before.before.before.before.before.before in
     let some = start.before.before.before.before.before.before.requires in
     let of = some.1 in
-    ((some.0, of, begun_at start.before.top.ensures some.3 (start.start.ensures some.0 of.governed.well_formed_lem.types_fit some.2)), length-replicate {A = ℕ} nodes 0)
+    ((some.0, of, begun_at start.before.top.ensures some.3 (start.start.ensures some.0 of.governed.is_well_formed.types_fit some.2)), length-replicate {A = ℕ} nodes 0)
 
 returns : tie.Need-returns
 returns c m of kinds described =
     let start = c.before.before.before.before.before.before.before.before.before in
-    c.take-lines.ensures m of (begun_at start.before.top.ensures described (start.start.ensures m of.governed.well_formed_lem.types_fit kinds))
+    c.take-lines.ensures m of (begun_at start.before.top.ensures described (start.start.ensures m of.governed.is_well_formed.types_fit kinds))
 
 pub again_spec : {M : Type 1} → statement M
 again_spec = tie.close (tie.spec top-requires start-requires take-lines-requires returns)

@@ -45,8 +45,8 @@ returns c T gov =
     let begin = words.before.before.before in
     let program = begin.args.program in
     let end = begin.requires.1.1 T gov in
-    let holds = held T program (terms_whole program begin.well_formed_lem.1.0) begin.requires.1.0 in
-    let filled = c.fill.ensures (machine_of T program) (sym (noted.words.ensures ∙ gov.ruled.words_same)) holds gov.well_formed_lem in
+    let holds = held T program (terms_whole program begin.is_well_formed.1.0) begin.requires.1.0 in
+    let filled = c.fill.ensures (machine_of T program) (sym (noted.words.ensures ∙ gov.ruled.words_same)) holds gov.is_well_formed in
     placed words.settle.new.1.1.0 kinds.settle2.new.1.0 gov (sym holds.rows) end words.settle.ensures kinds.settle2.ensures filled
 
 pub read-off-spec : {M : Type 1} → statement M

@@ -9,13 +9,13 @@ use Rattle.solver.proofs.take_lines.Tie as tie
 add-types-requires : tie.Need-add-types-requires
 add-types-requires c κs =
     let some = c.before.before.requires.0 in
-    (some.2.described.parts, omega (arith, some.1.types, some.1.governed.well_formed_lem.types_fit))
+    (some.2.described.parts, omega (arith, some.1.types, some.1.governed.is_well_formed.types_fit))
 
 add-params-requires : tie.Need-add-params-requires
 add-params-requires c κs =
     let types = c.before.before in
     let some = types.before.before.before.requires.0 in
-    let wf = some.1.governed.well_formed_lem in
+    let wf = some.1.governed.is_well_formed in
     (omega (arith, some.1.params, wf.params_fit), omega (arith, types.add-types.ensures.1, some.1.types, wf.types_fit), param_places wf some.1.noted _ (omega (arith, some.1.params, wf.params_fit)))
 
 look-through-requires : tie.Need-look-through-requires

@@ -21,7 +21,7 @@ describe-term-requires c κs =
     let args = c.before.args in
     let pre = c.before.requires in
     let row = pre.0.2 in
-    (pre.1.1.0, (row.in_list, has_nodes args.i args.term _ _ row.stands row.qualifier_node_lem row.type_node))
+    (pre.1.1.0, (row.in_list, has_nodes args.i args.term _ _ row.stands row.is_qualifier_node row.type_node))
 
 -- The turn of the row, once its descriptor is written.
 taking : (c : tie.After-describe-term) →

@@ -32,7 +32,7 @@ names-requires : tie.Need-names-requires invariant-loop decreases-loop
 names-requires c κs = search rules
 
 returns : tie.Need-returns invariant-loop decreases-loop
-returns c = let at = c.before.before.before.before in let start = at.before.before in scan_found (named_by start.args.sought) start.args.t1 start.args.count at.loop.i _ (counted start.args.t1 _ 256 _ start.well_formed_lem.0.1.0.1 at.before.filled.ensures).0 at.loop.invariant.1 _ c.before.before.before.loop-test.true c.before.names.ensures c.if1.true
+returns c = let at = c.before.before.before.before in let start = at.before.before in scan_found (named_by start.args.sought) start.args.t1 start.args.count at.loop.i _ (counted start.args.t1 _ 256 _ start.is_well_formed.0.1.0.1 at.before.filled.ensures).0 at.loop.invariant.1 _ c.before.before.before.loop-test.true c.before.names.ensures c.if1.true
 
 add-i : tie.Need-overflow-add-i invariant-loop decreases-loop
 add-i c = search rules
@@ -41,10 +41,10 @@ loop-less : tie.Need-loop-smaller invariant-loop decreases-loop
 loop-less c = search rules
 
 loop-again : tie.Need-loop-preserved invariant-loop decreases-loop
-loop-again c = (search rules, let at = c.before.before.before.before in let start = at.before.before in scan_passed (named_by start.args.sought) start.args.t1 start.args.count at.loop.i _ (counted start.args.t1 _ 256 _ start.well_formed_lem.0.1.0.1 at.before.filled.ensures).0 at.loop.invariant.1 _ c.before.before.before.loop-test.true c.before.names.ensures c.if1.false)
+loop-again c = (search rules, let at = c.before.before.before.before in let start = at.before.before in scan_passed (named_by start.args.sought) start.args.t1 start.args.count at.loop.i _ (counted start.args.t1 _ 256 _ start.is_well_formed.0.1.0.1 at.before.filled.ensures).0 at.loop.invariant.1 _ c.before.before.before.loop-test.true c.before.names.ensures c.if1.false)
 
 returns-2 : tie.Need-returns-2 invariant-loop decreases-loop
-returns-2 c = let at = c.before in let start = at.before.before in scan_over (named_by start.args.sought) start.args.t1 start.args.count at.loop.i _ (counted start.args.t1 _ 256 _ start.well_formed_lem.0.1.0.1 at.before.filled.ensures).0 at.loop.invariant.1 c.loop-test.false
+returns-2 c = let at = c.before in let start = at.before.before in scan_over (named_by start.args.sought) start.args.t1 start.args.count at.loop.i _ (counted start.args.t1 _ 256 _ start.is_well_formed.0.1.0.1 at.before.filled.ensures).0 at.loop.invariant.1 c.loop-test.false
 
 pub some-row-spec : {M : Type 1} → statement M
 some-row-spec =

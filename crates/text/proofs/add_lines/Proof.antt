@@ -16,7 +16,7 @@ abbrev decreases-loop : tie.decreases-loop
 decreases-loop names text table₀ used₀ bound₀ from₀ line₀ table used bound from line = length text - from
 
 loop-holds : tie.Need-loop-init invariant-loop decreases-loop
-loop-holds c = let start = c.before.before in all_left start.args.t1 _ _ start.well_formed_lem.0 start.requires
+loop-holds c = let start = c.before.before in all_left start.args.t1 _ _ start.is_well_formed.0 start.requires
 
 line-end-requires : tie.Need-line-end-requires invariant-loop decreases-loop
 line-end-requires c κs = search rules

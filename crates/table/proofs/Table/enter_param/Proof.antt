@@ -30,7 +30,7 @@ add-self : tie.Need-overflow-add-self
 add-self c = search rules
 
 returns-2 : tie.Need-returns-2
-returns-2 c = (param_stored c.before.before.before.before.args.t1 _ _ c.if1.false _ (c.before.param-refusal.ensures _ c.before.before.before.type-rows.ensures.0 c.before.before.parameters.ensures.0) (params_whole c.before.before.before.before.args.t1 c.before.before.before.before.well_formed_lem.0), refl)
+returns-2 c = (param_stored c.before.before.before.before.args.t1 _ _ c.if1.false _ (c.before.param-refusal.ensures _ c.before.before.before.type-rows.ensures.0 c.before.before.parameters.ensures.0) (params_whole c.before.before.before.before.args.t1 c.before.before.before.before.is_well_formed.0), refl)
 
 pub enter-param-spec : {M : Type 1} → statement M
 enter-param-spec =

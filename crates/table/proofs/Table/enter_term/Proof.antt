@@ -57,7 +57,7 @@ returns-2 c =
     let at-args = at-parameters.before.before in (
       term_stored at-args.args.t1 _ _ c.if1.false _
           (c.before.term-refusal.ensures _ at-parameters.parameters.ensures.0 at-term-rows.term_rows.ensures.0 (free_by_rows _ _ _ _ at-children-free.children-free.ensures c.before.before.binder-free.ensures))
-          (terms_whole at-args.args.t1 at-args.well_formed_lem.0),
+          (terms_whole at-args.args.t1 at-args.is_well_formed.0),
       refl,
     )
 

@@ -27,7 +27,7 @@ add-self : tie.Need-overflow-add-self
 add-self c = search rules
 
 returns-2 : tie.Need-returns-2
-returns-2 c = (type_stored c.before.before.before.args.t1 _ _ c.if1.false _ (c.before.type-refusal.ensures _ c.before.before.type-rows.ensures.0) (types_whole c.before.before.before.args.t1 c.before.before.before.well_formed_lem.0), refl)
+returns-2 c = (type_stored c.before.before.before.args.t1 _ _ c.if1.false _ (c.before.type-refusal.ensures _ c.before.before.type-rows.ensures.0) (types_whole c.before.before.before.args.t1 c.before.before.before.is_well_formed.0), refl)
 
 pub enter-type-spec : {M : Type 1} → statement M
 enter-type-spec =

@@ -8,7 +8,7 @@ filled-requires : tie.Need-filled-requires
 filled-requires c κs = search rules
 
 returns : tie.Need-returns
-returns c = params_counted c.before.args.self c.before.well_formed_lem.0 _ c.filled.ensures
+returns c = params_counted c.before.args.self c.before.is_well_formed.0 _ c.filled.ensures
 
 pub parameters-spec : {M : Type 1} → statement M
 parameters-spec = tie.close (tie.spec filled-requires returns)

@@ -8,7 +8,7 @@ filled-requires : tie.Need-filled-requires
 filled-requires c κs = search rules
 
 returns : tie.Need-returns
-returns c = terms_counted c.before.args.self c.before.well_formed_lem.0 _ c.filled.ensures
+returns c = terms_counted c.before.args.self c.before.is_well_formed.0 _ c.filled.ensures
 
 pub term-rows-spec : {M : Type 1} → statement M
 term-rows-spec = tie.close (tie.spec filled-requires returns)
