@@ -1,0 +1,13 @@
+-- The invariant: no member before c is the greatest.
+use Prim.Native.Nat.{ℕ, ◌<◌, ◌≤◌, ◌-◌}
+use native.Mathlib.Omega.{arith}
+use mathlib.Core.Path.{sym, ◌∙◌}
+use borrow.Author.Count.{below_none, below_more}
+use Rattle.derive.proofs.Searching.{NotBest, member_no, above_no, best_here, best_none}
+use Rattle.derive.proofs.greatest.Given as goal
+
+abbrev pub invariant-loop-c : goal.invariant-loop-c
+invariant-loop-c l = (l.c ≤ l.words) × ((k : ℕ) → k < l.c → NotBest l.order l.words l.members k)
+
+abbrev pub decreases-loop-c : goal.decreases-loop-c
+decreases-loop-c l = l.words - l.c

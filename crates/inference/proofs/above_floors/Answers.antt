@@ -1,0 +1,19 @@
+-- What is found of the floors is a refusal, or accepts.
+use mathlib.Core.Path.{refl}
+use Rattle.solver.proofs.Stops.{rule_lattice}
+use Rattle.inference.proofs.Floors.{codes_worded, every_met, one_missed}
+use Rattle.inference.proofs.Judging.{ready_governed, judges_missed, judges_accepted}
+use borrow.Author.Rules.{rules}
+use Rattle.inference.proofs.above_floors.Goals as goal
+
+pub lowest_missed-requires : goal.lowest_missed-requires
+lowest_missed-requires c = let counted = c.parameters.ensures in
+    record { fact_1 = rule_lattice (ready_governed c.args.table c.requires.0); fact_2 = (counted.1, codes_worded c.args.table c.requires.0 _ c.requires.2 _ counted.0) }
+
+pub returns-in-At : goal.returns-in-At
+returns-in-At c = let missed = one_missed c.args.table c.requires.0 _ c.requires.2 _ c.parameters.ensures.0 _ (rw c.in-At.is at c.lowest_missed.ensures) in
+    judges_missed c.requires.1 c.requires.2 missed refl
+
+pub returns-in-Nowhere : goal.returns-in-Nowhere
+returns-in-Nowhere c = let met = every_met c.args.table c.requires.0 _ c.requires.2 _ c.parameters.ensures.0 (rw c.in-Nowhere.is at c.lowest_missed.ensures) in
+    judges_accepted c.requires.1 c.requires.2 met refl

@@ -1,0 +1,25 @@
+use native.Mathlib.Omega.{arith}
+use Rattle.moves.proofs.Applying.{spent_at, put_bound, not_app, not_op, not_var, not_num, not_enc}
+use borrow.Author.Rules.{rules}
+use Rattle.moves.proofs.cells.apply.Goals as goal
+
+pub returns-then-p-budget : goal.returns-then-p-budget
+returns-then-p-budget c = (spent_at c.requires.fact_1.0 c.if-p-budget.true, c.requires.fact_2)
+
+pub returns-in-Lam : goal.returns-in-Lam
+returns-in-Lam c = put_bound c.requires.fact_1.0 c.in-Lam.is c.if-p-budget.false (omega arith) (omega arith) (omega arith) (omega arith) c.requires.fact_2 c.cell.ensures c.inside.ensures
+
+pub returns-in-App : goal.returns-in-App
+returns-in-App c = (not_app c.requires.fact_1.0 c.in-App.is, c.requires.fact_2)
+
+pub returns-in-Op : goal.returns-in-Op
+returns-in-Op c = (not_op c.requires.fact_1.0 c.in-Op.is, c.requires.fact_2)
+
+pub returns-in-Var : goal.returns-in-Var
+returns-in-Var c = (not_var c.requires.fact_1.0 c.in-Var.is, c.requires.fact_2)
+
+pub returns-in-Num : goal.returns-in-Num
+returns-in-Num c = (not_num c.requires.fact_1.0 c.in-Num.is, c.requires.fact_2)
+
+pub returns-in-Enc : goal.returns-in-Enc
+returns-in-Enc c = (not_enc c.requires.fact_1.0 c.in-Enc.is, c.requires.fact_2)

@@ -1,0 +1,12 @@
+use Prim.Native.Nat.{ℕ, ◌-◌, ◌≤◌}
+use native.Mathlib.Omega.{arith}
+use mathlib.Core.Path.{◌≡◌}
+use Rattle.moves.specs.Moves.{Sought, nowhere}
+use Rattle.moves.proofs.Seeking.{sought_here, sought_past}
+use Rattle.moves.proofs.cells.seek.Given as goal
+
+abbrev pub invariant-loop-at : goal.invariant-loop-at
+invariant-loop-at l = (l.at ≤ 10000) × ((r : ℕ) → Sought l.param l.next l.x l.at r → Sought l.param l.next l.x l.place r)
+
+abbrev pub decreases-loop-at : goal.decreases-loop-at
+decreases-loop-at l = l.at

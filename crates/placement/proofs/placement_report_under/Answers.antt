@@ -1,0 +1,14 @@
+-- A short buffer, a refused file, or what is returned under the file's table.
+use Rattle.model.specs.Text.{ReturnsUnder}
+use Rattle.placement.proofs.Exits.{file_refused, file_accepted}
+use borrow.Author.Rules.{rules}
+use Rattle.placement.proofs.placement_report_under.Goals as goal
+
+pub returns-then-buffer-lt-REPORT : goal.returns-then-buffer-lt-REPORT
+returns-then-buffer-lt-REPORT c = ReturnsUnder.short c.if-buffer-lt-REPORT.true
+
+pub returns-then-opened-ne0 : goal.returns-then-opened-ne0
+returns-then-opened-ne0 c = file_refused _ _ _ _ c.before.before.before.«open».ensures c.if-opened-ne0.true c.if-buffer-lt-REPORT.false
+
+pub returns : goal.returns
+returns c = file_accepted _ _ _ _ c.before.before.before.before.before.before.«open».ensures c.if-opened-ne0.false c.report.ensures

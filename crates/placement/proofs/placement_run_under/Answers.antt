@@ -1,0 +1,14 @@
+-- A short answer, a refused file, or what is returned under the file's table.
+use Rattle.dryrun.specs.Entry.{RunReturnsUnder}
+use Rattle.placement.proofs.Exits.{run_file_refused, run_file_accepted}
+use borrow.Author.Rules.{rules}
+use Rattle.placement.proofs.placement_run_under.Goals as goal
+
+pub returns-then-answer-lt-ANSWER : goal.returns-then-answer-lt-ANSWER
+returns-then-answer-lt-ANSWER c = RunReturnsUnder.short c.if-answer-lt-ANSWER.true
+
+pub returns-then-under-ne0 : goal.returns-then-under-ne0
+returns-then-under-ne0 c = run_file_refused _ _ _ _ _ _ c.before.before.before.«open».ensures c.if-under-ne0.true c.if-answer-lt-ANSWER.false
+
+pub returns : goal.returns
+returns c = run_file_accepted _ _ _ _ _ _ c.before.before.before.before.before.before.«open».ensures c.if-under-ne0.false c.run_text.ensures

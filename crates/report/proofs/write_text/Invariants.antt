@@ -1,0 +1,15 @@
+-- The loop has left to write the rest of the text.
+use Prim.Native.Nat.{◌+◌, ◌-◌, ◌≤◌}
+use native.Mathlib.Omega.{arith}
+use borrow.Author.Rules.{rules}
+use lib.ListN.{length, drop, length-set}
+use Rattle.report.proofs.Writing.{Left, left_length, text_start, text_rest, text_end}
+use Rattle.report.proofs.write_text.Given as goal
+
+abbrev pub invariant-loop-i : goal.invariant-loop-i
+invariant-loop-i l = (l.i ≤ length l.initial.buffer)
+    × (l.text + length l.initial.buffer ≤ length l.buffer)
+    × Left l.buffer (l.text + l.i) (drop l.i l.initial.buffer) l.at l.text l.initial.buffer
+
+abbrev pub decreases-loop-i : goal.decreases-loop-i
+decreases-loop-i l = length l.initial.buffer - l.i

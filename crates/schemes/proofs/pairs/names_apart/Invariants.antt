@@ -1,0 +1,16 @@
+-- The invariant: each of the first i lines has a name of its own.
+use Prim.Native.Nat.{ℕ, ◌-◌, ◌<◌}
+use mathlib.Core.Bool.{true}
+use mathlib.Core.Path.{◌≡◌, sym, ◌∙◌}
+use borrow.Author.Rules.{rules}
+use borrow.Author.Tests.{not-false}
+use borrow.Author.Count.{below_none, below_more}
+use Rattle.schemes.specs.Pairs.{same_name, alone}
+use Rattle.schemes.proofs.Apart.{apart_false, apart_true}
+use Rattle.schemes.proofs.pairs.names_apart.Given as goal
+
+abbrev pub invariant-loop-i : goal.invariant-loop-i
+invariant-loop-i l = (k : ℕ) → k < l.i → alone (same_name l.file) l.n k ≡ true
+
+abbrev pub decreases-loop-i : goal.decreases-loop-i
+decreases-loop-i l = l.n - l.i

@@ -1,0 +1,18 @@
+-- The invariant: the first i bytes are filled in.
+use Prim.Native.Nat.{◌-◌}
+use mathlib.Core.Path.{refl}
+use borrow.Author.Rules.{rules}
+use Rattle.scheme.proofs.Filling.{filled_none, filled_more}
+use Rattle.schemes.specs.Entries.{Entered}
+use Rattle.schemes.specs.Entries.{six_at}
+use Rattle.schemes.proofs.Six.{six_ruled}
+use Rattle.schemes.proofs.ruling.six_rule.Goals as goal
+
+pub loop-i-init : goal.loop-i-init
+loop-i-init c = filled_none refl
+
+pub loop-i-preserved : goal.loop-i-preserved
+loop-i-preserved c = filled_more c.loop-i.invariant c.loop-i-test.true c.six_entry.ensures
+
+pub returns : goal.returns
+returns c = six_ruled _ _ c.loop-i-test.false c.loop-i.invariant

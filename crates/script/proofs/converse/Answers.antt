@@ -1,0 +1,23 @@
+-- The answers to the lines left come after those so far; each turn leaves fewer bytes.
+use Prim.Native.Nat.{◌-◌}
+use mathlib.Core.Path.{◌≡◌, refl}
+use lib.ListN.{length}
+use borrow.Author.Rules.{rules}
+use Rattle.lines.proofs.Lines.{end_bound, end_fits}
+use Rattle.script.proofs.Conversing.{Left, turns}
+use Rattle.script.proofs.converse.Goals as goal
+
+pub loop-from-init : goal.loop-from-init
+loop-from-init c = (search (turns, rules), refl)
+
+pub slice_bounds-answer_at-end : goal.slice_bounds-answer_at-end
+slice_bounds-answer_at-end c = search (end_bound, rules)
+
+pub overflow_add-from : goal.overflow_add-from
+overflow_add-from c = search (end_fits, rules)
+
+pub loop-from-preserved : goal.loop-from-preserved
+loop-from-preserved c = (search (turns, rules), search rules)
+
+pub returns : goal.returns
+returns c = search (turns, rules)

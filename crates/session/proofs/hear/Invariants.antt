@@ -1,0 +1,13 @@
+-- Each turn leaves fewer bytes of the part.
+use Prim.Native.Nat.{◌-◌}
+use borrow.Author.Rules.{rules}
+use lib.ListN.{length}
+use Rattle.lines.proofs.Lines.{end_bound, end_fits}
+use Rattle.session.specs.Going.{Going}
+use Rattle.session.proofs.hear.Given as goal
+
+abbrev pub invariant-loop-from : goal.invariant-loop-from
+invariant-loop-from l = Going l.now
+
+abbrev pub decreases-loop-from : goal.decreases-loop-from
+decreases-loop-from l = length l.part - l.from

@@ -1,0 +1,13 @@
+-- Each turn is one fewer to come.
+use native.Mathlib.Omega.{arith}
+use borrow.Author.Rules.{rules}
+use Rattle.scheme.specs.Six.{six_table}
+use Rattle.table.proofs.Follows.{fresh_ready}
+use Rattle.session.specs.Going.{Going}
+use Rattle.session.proofs.main.Given as goal
+
+abbrev pub invariant-loop-turns : goal.invariant-loop-turns
+invariant-loop-turns l = Going l.talk
+
+abbrev pub decreases-loop-turns : goal.decreases-loop-turns
+decreases-loop-turns l = l.turns

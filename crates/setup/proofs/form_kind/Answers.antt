@@ -1,0 +1,6 @@
+-- `setup::form_kind`: one case for each form.
+use borrow.Author.Rules.{rules}
+use Rattle.setup.proofs.form_kind.Goals as goal
+
+pub returns-in-Arrow : goal.returns-in-Arrow
+returns-in-Arrow c = rw c.in-Arrow.is c.arrow.ensures

@@ -1,0 +1,29 @@
+-- `solver::take_rows`: before each turn the state is the one after the rows taken, and the rows of a further run are fewer; that run shows the rows before
+-- the last stop typable.
+use Prim.Native.Nat.{ℕ, ◌+◌, ◌*◌, ◌-◌, ◌<◌, ◌≤◌}
+use native.Mathlib.Omega.{arith}
+use mathlib.Core.List.{List}
+use mathlib.Core.Path.{◌≡◌, subst}
+use borrow.Author.Rules.{rules}
+use Rattle.model.specs.Machine.{Machine}
+use Rattle.graph.specs.Types.{Types, types_of}
+use Rattle.qualifiers.specs.Classes.{Qualifiers, qualifiers_of}
+use Rattle.setup.specs.Descriptors.{Described}
+use Rattle.pending.specs.Pending.{Pending, pending_of}
+use Rattle.pending.specs.declared.Sweep.TheVariants.{Kept}
+use Rattle.rows.specs.Steps.{Ready}
+use Rattle.solver.specs.State.{After}
+use Rattle.solver.specs.Runs.{Fails, Lined, Held}
+use Rattle.solver.proofs.Placed.{completed}
+use Rattle.solver.proofs.Ready.{row_of, row_ready, refusal_of_lem, refusal_first}
+use Rattle.solver.proofs.take_rows.Given as goal
+
+abbrev pub invariant-loop-pending : goal.invariant-loop-pending
+invariant-loop-pending l = (l.i < l.rows)
+    × (l.rows ≤ l.termcount)
+    × ((m : Machine) → Held l.rule m l.formkinds l.qualifiers l.typerows l.initial.crowded l.typecount l.paramcount l.termcount → Described m l.initial.typeparent →
+    Lined l.rule m l.initial.typeparent (types_of l.initial.qualifierparent l.initial.bound) (qualifiers_of l.n l.terms) l.initial.left l.initial.right l.initial.pairqualifier (Kept l.initial.pairtype) →
+    Before l.rule m l.kids (types_of l.typeparent l.kind) (qualifiers_of l.qualifierparent l.bound) (pending_of l.pairqualifier l.pairtype l.crowded l.count) l.i l.rows l.termcount)
+
+abbrev pub decreases-loop-pending : goal.decreases-loop-pending
+decreases-loop-pending l = 257 * l.rows + (l.rows - l.i)

@@ -1,0 +1,13 @@
+-- Each turn stores one answer and feeds one byte; the last answer is stored after them.
+use Prim.Native.Nat.{◌-◌, ◌≤◌}
+use native.Mathlib.Omega.{arith}
+use lib.ListN.{length}
+use borrow.Author.Rules.{rules}
+use Rattle.test_number_export.proofs.Prefixes.{Asked, asks}
+use Rattle.test_number_export.proofs.number_answers.Given as goal
+
+abbrev pub invariant-loop-i : goal.invariant-loop-i
+invariant-loop-i l = Asked l.most l.s l.initial.out l.out l.i l.reader
+
+abbrev pub decreases-loop-i : goal.decreases-loop-i
+decreases-loop-i l = length l.s - l.i

@@ -1,0 +1,15 @@
+-- The entries left, written to the present bytes, give the whole.
+use Prim.Native.Nat.{◌-◌, ◌≤◌}
+use mathlib.Core.Path.{◌≡◌, refl, ◌∙◌}
+use lib.ListN.{length}
+use borrow.Author.Rules.{rules}
+use Rattle.table.specs.Lists.{lists}
+use Rattle.test_table_export.specs.Dump.{dumped_from}
+use Rattle.test_table_export.proofs.Turns.{entry_written, entries_written, no_room, all_entries}
+use Rattle.test_table_export.proofs.dump.dump.Given as goal
+
+abbrev pub invariant-loop-k : goal.invariant-loop-k
+invariant-loop-k l = (l.k ≤ 384) × (length l.entries ≡ length l.initial.entries) × (dumped_from (lists l.table) l.k (384 - l.k) l.entries ≡ dumped_from (lists l.table) 0 384 l.initial.entries)
+
+abbrev pub decreases-loop-k : goal.decreases-loop-k
+decreases-loop-k l = 384 - l.k

@@ -1,0 +1,21 @@
+-- The calls left, made on the present table, leave what all calls leave, and their numbers complete those written.
+use Prim.Native.Nat.{◌-◌, ◌≤◌}
+use mathlib.Core.Path.{◌≡◌, refl, ap, ◌∙◌}
+use lib.ListN.{length, length-set}
+use lib.Seq.{sets}
+use borrow.Author.Rules.{rules}
+use Rattle.scheme.specs.Six.{six_table}
+use Rattle.model.specs.Machine.{fresh_machine}
+use Rattle.table.specs.Lists.{lists}
+use Rattle.test_table_export.specs.Script.{calls_from, numbers_of, machine_after}
+use Rattle.test_table_export.proofs.Turns.{part_whole, machine_starts, numbers_start, call_left, number_left, calls_done}
+use Rattle.test_table_export.proofs.run.Given as goal
+
+abbrev pub invariant-loop-i : goal.invariant-loop-i
+invariant-loop-i l = (l.i ≤ l.initial.numbers)
+    × (length l.numbers ≡ length l.calls)
+    × (machine_after (lists l.table) (calls_from l.script l.i (l.initial.numbers - l.i)) ≡ machine_after (fresh_machine six_table) (calls_from l.script 0 l.initial.numbers))
+    × (sets l.numbers l.i (numbers_of (lists l.table) (calls_from l.script l.i (l.initial.numbers - l.i))) ≡ sets l.calls 0 (numbers_of (fresh_machine six_table) (calls_from l.script 0 l.initial.numbers)))
+
+abbrev pub decreases-loop-i : goal.decreases-loop-i
+decreases-loop-i l = l.initial.numbers - l.i

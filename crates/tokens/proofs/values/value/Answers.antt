@@ -1,0 +1,13 @@
+-- A number is read on the way to the comma, a word after it was found.
+use borrow.Author.Rules.{rules}
+use Rattle.tokens.proofs.Reading.{values}
+use Rattle.tokens.proofs.values.value.Goals as goal
+
+pub returns-in-110 : goal.returns-in-110
+returns-in-110 c = search (values, rules)
+
+pub returns-in-108 : goal.returns-in-108
+returns-in-108 c = search (values, rules)
+
+pub returns-in_default : goal.returns-in_default
+returns-in_default c = search (values, rules)

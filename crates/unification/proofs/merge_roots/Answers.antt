@@ -1,0 +1,31 @@
+-- `unification::merge_roots`: each exit by the kinds of the two roots.
+use borrow.Author.Rules.{rules}
+use native.Mathlib.Omega.{arith}
+use mathlib.Core.Logic.{inl, inr}
+use mathlib.Core.Path.{refl, sym}
+use Rattle.unification.proofs.Merging.{apart_int, apart_arrow, merged_one, merged_arrows}
+use Rattle.unification.proofs.merge_roots.Goals as goal
+
+pub returns-then-k-eq-UNKNOWN : goal.returns-then-k-eq-UNKNOWN
+returns-then-k-eq-UNKNOWN c = merged_one c.requires.fact_1 c.requires.fact_2 (inr refl) c.link.ensures (inl c.if-k-eq-UNKNOWN.true) (inr refl)
+
+pub returns-then-l-eq-UNKNOWN : goal.returns-then-l-eq-UNKNOWN
+returns-then-l-eq-UNKNOWN c = merged_one c.requires.fact_1 c.requires.fact_2 (inl refl) c.link-then-l-eq-UNKNOWN.ensures (inr refl) (inl c.if-l-eq-UNKNOWN.true)
+
+pub returns-then-k-l : goal.returns-then-k-l
+returns-then-k-l c = merged_one c.requires.fact_1 c.requires.fact_2 (inl refl) c.link-then-k-l.ensures (inr refl) (inr (sym c.if-k-l.true))
+
+pub returns-then-k-eq-INT : goal.returns-then-k-eq-INT
+returns-then-k-eq-INT c = apart_int c.requires.fact_1 c.args.low c.args.high (omega arith) (omega arith) c.if-k-eq-INT.true (omega arith)
+
+pub returns-then-l-eq-INT : goal.returns-then-l-eq-INT
+returns-then-l-eq-INT c = apart_arrow c.requires.fact_1 c.args.low c.args.high (omega arith) (omega arith) (omega arith) c.if-l-eq-INT.true
+
+pub overflow_cast-result : goal.overflow_cast-result
+overflow_cast-result c = omega (arith, c.requires.fact_1.kinds c.args.low (omega arith))
+
+pub overflow_cast-result-3 : goal.overflow_cast-result-3
+overflow_cast-result-3 c = omega (arith, c.requires.fact_1.kinds c.args.high (omega arith))
+
+pub returns : goal.returns
+returns c = merged_arrows c.requires.fact_1 c.requires.fact_2 (inl refl) c.link-2.ensures refl (omega arith) (omega arith)
