@@ -1,8 +1,8 @@
 -- The lengths of a program's arrays.
-use mathlib.Core.Path.{◌≡◌, sym, ◌∙◌}
+use mathlib.Core.Path.{◌≡◌}
 use denote.Laws.{Is}
 use denote.Struct.Laws as Struct
-use lib.ListN.{length, length-map}
+use lib.ListN.{length}
 use Rattle.model.specs.declared.Program.{Program}
 use Rattle.model.specs.contracts.Program as ProgramType
 use Rattle.model.proofs.Program.TheLaws as ProgramLaws
