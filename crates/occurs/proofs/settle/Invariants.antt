@@ -6,7 +6,7 @@ use Rattle.occurs.proofs.Settling.{Settling, settling_none, settling_more, settl
 use Rattle.occurs.proofs.settle.Given as goal
 
 abbrev pub invariant-loop-node : goal.invariant-loop-node
-invariant-loop-node l = Settling l.typeparent l.count l.kind l.node
+invariant-loop-node l = Settling l.typeparent l.initial.kind l.kind l.node
 
 abbrev pub decreases-loop-node : goal.decreases-loop-node
-decreases-loop-node l = l.initial.kind - l.node
+decreases-loop-node l = l.count - l.node

@@ -12,8 +12,8 @@ use Rattle.pending.proofs.Sweeping.{Sweeping, sweeping_none, pair_nodes, marks_f
 use Rattle.pending.proofs.look_through.Given as goal
 
 abbrev pub invariant-loop-j : goal.invariant-loop-j
-invariant-loop-j l = Sweeping l.rule (types_of l.n l.initial.qualifierparent) (qualifiers_of l.typeparent l.kind) (qualifiers_of l.qualifierparent l.bound)
-    (pending_of l.initial.bound l.initial.pairqualifier l.initial.pairtype l.initial.crowded) (pending_of l.pairqualifier l.pairtype l.crowded l.kept) l.j
+invariant-loop-j l = Sweeping l.rule (types_of l.typeparent l.kind) (qualifiers_of l.initial.qualifierparent l.initial.bound) (qualifiers_of l.qualifierparent l.bound)
+    (pending_of l.initial.pairqualifier l.initial.pairtype l.initial.crowded l.n) (pending_of l.pairqualifier l.pairtype l.crowded l.kept) l.j
 
 abbrev pub decreases-loop-j : goal.decreases-loop-j
-decreases-loop-j l = l.initial.crowded - l.j
+decreases-loop-j l = l.n - l.j

@@ -24,5 +24,6 @@ pub loop-c-preserved : goal.loop-c-preserved
 loop-c-preserved c = (omega arith, λ p k within. settled_constant k within (c.loop-c.invariant.1 p k within) (omega (arith, c.words-words.ensures)))
 
 pub returns : goal.returns
-returns c = let end : c.loop-c.c ≡ words_at c.args.rule.now = omega (arith, c.words-words.ensures, c.loop-c.invariant.0) in
+returns c p k within =
+    let end : c.loop-c.c ≡ words_at c.args.rule.now = omega (arith, c.words-words.ensures, c.loop-c.invariant.0) in
     rw end at (c.loop-c.invariant.1 p k within)

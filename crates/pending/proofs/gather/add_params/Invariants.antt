@@ -8,7 +8,7 @@ use Rattle.pending.proofs.Gathering.{params_none, params_more}
 use Rattle.pending.proofs.gather.add_params.Given as goal
 
 abbrev pub invariant-loop-p : goal.invariant-loop-p
-invariant-loop-p l = (l.p ≤ l.count) × Adds (ParamPair l.qualifiers l.typerows l.p) l.kind (notes_of l.n l.initial.pairqualifier) (notes_of l.pairqualifier l.pairtype) l.initial.pairtype l.p l.next
+invariant-loop-p l = (l.p ≤ l.count) × Adds (ParamPair l.qualifiers l.typerows l.p) l.kind (notes_of l.initial.pairqualifier l.initial.pairtype) (notes_of l.pairqualifier l.pairtype) l.n l.p l.next
 
 abbrev pub decreases-loop-p : goal.decreases-loop-p
 decreases-loop-p l = l.count - l.p

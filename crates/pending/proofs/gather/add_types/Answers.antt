@@ -11,7 +11,7 @@ pub loop-x-init : goal.loop-x-init
 loop-x-init c = (omega arith, forms_none)
 
 pub add_form-n-requires : goal.add_form-n-requires
-add_form-n-requires c = (c.requires.fact_1, (omega (arith, c.loop-x.invariant.1.few), omega arith))
+add_form-n-requires c = record { fact_1 = c.requires.fact_1; fact_2 = (omega (arith, c.loop-x.invariant.1.few), omega arith) }
 
 pub loop-x-preserved : goal.loop-x-preserved
 loop-x-preserved c = (omega arith, forms_more c.loop-x.invariant.1 c.add_form-n.ensures)
