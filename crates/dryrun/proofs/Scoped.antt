@@ -107,7 +107,7 @@ module _ (m : Machine) (w : WellFormed m) where
       unfolding applied
       applied_none_free e [] numbers none = none
       applied_none_free e (p ∷ ps) [] none = none
-      applied_none_free e (p ∷ ps) (n ∷ numbers) none = applied_none_free _ ps numbers (λ q. both_false (free q e) false (none q) refl)
+      applied_none_free e (p ∷ ps) (n ∷ numbers) none = applied_none_free (apply e (number n (word (param p)))) ps numbers (λ q. both_false (free q e) false (none q) refl)
 
       pub job_none_free : (numbers : List ℕ) → NoneFree (job m word numbers)
       job_none_free numbers = applied_none_free (unfolded m word (length m.terms) (last_row m)) (leading m) numbers last_none_free

@@ -19,6 +19,9 @@ value_tagged : (v : Expression) → Value (untagged_form v) → Value v
 unfolding untagged_form
 value_tagged (number n tag) h = a_number
 value_tagged (function x e) h = a_function
+value_tagged (variable _) h = elim h [ ]
+value_tagged (apply _ _) h = elim h [ ]
+value_tagged (operate _ _ _) h = elim h [ ]
 
 cond_untagged : (b : Bool) (x y : Expression) → untagged_form (cond b x y) ≡ cond b (untagged_form x) (untagged_form y)
 cond_untagged true x y = refl

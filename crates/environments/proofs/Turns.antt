@@ -113,7 +113,7 @@ module _ (m : Machine) (w : WellFormed m) (word : Slot → ℕ) where
   means_value (Means.a_number plain) = Value.a_number
   means_value (Means.a_function is h lam own) = Value.a_function
 
-  stack_upright : {c : Cells} {count d : ℕ} {f : Frames} {R : List Frame} → Stack m word c count f d R → AllUpright R
+  stack_upright : {c : Cells} {count : ℕ} {f : Frames} {d : ℕ} {R : List Frame} → Stack m word c count f d R → AllUpright R
   stack_upright bottom = []ᵁ
   stack_upright (on_argument k h b s) = tt ∷ᵁ stack_upright s
   stack_upright (on_called k v s) = means_value v ∷ᵁ stack_upright s
@@ -121,7 +121,7 @@ module _ (m : Machine) (w : WellFormed m) (word : Slot → ℕ) where
   stack_upright (on_left k five v s) = means_value v ∷ᵁ stack_upright s
   stack_upright (on_number k t s) = tt ∷ᵁ stack_upright s
 
-  stack_length : {c : Cells} {count d : ℕ} {f : Frames} {R : List Frame} → Stack m word c count f d R → length R ≡ d
+  stack_length : {c : Cells} {count : ℕ} {f : Frames} {d : ℕ} {R : List Frame} → Stack m word c count f d R → length R ≡ d
   stack_length bottom = refl
   stack_length (on_argument k h b s) = ap suc (stack_length s)
   stack_length (on_called k v s) = ap suc (stack_length s)

@@ -85,7 +85,7 @@ module _ (m : Machine) (w : WellFormed m) (word : Slot → ℕ) where
   frame_light kind value h low = omega (arith, waits_weight kind value low, row_light value h, weight_some value)
 
   -- The frames of a run are lighter than the span of so many.
-  stack_light : {c : Cells} {count d : ℕ} {f : Frames} {R : List Frame} → Stack m word c count f d R → frames_weight f d + weight 256 + 1 ≤ span d
+  stack_light : {c : Cells} {count : ℕ} {f : Frames} {d : ℕ} {R : List Frame} → Stack m word c count f d R → frames_weight f d + weight 256 + 1 ≤ span d
   unfolding frames_weight span
   stack_light bottom = omega arith
   stack_light {f = f} (on_argument {d} k h b s) = omega (arith, stack_light s, frame_light (get_or f.kind d 0) (get_or f.value d 0) h (omega arith))

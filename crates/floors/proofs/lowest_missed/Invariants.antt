@@ -5,7 +5,6 @@ use mathlib.Core.Bool.{false≢true}
 use mathlib.Core.Path.{sym, ◌∙◌}
 use borrow.Author.Count.{below_more}
 use borrow.Author.Rules.{rules}
-use borrow.Author.Tests.{not-true, not-false}
 use Rattle.floors.specs.Lowest.{Holds}
 use Rattle.floors.proofs.lowest_missed.Given as goal
 

@@ -9,7 +9,7 @@ use Rattle.report.proofs.Lines.{turn_start, turn_room, turn_left, turn_end}
 use Rattle.report.proofs.write_slots.Given as goal
 
 abbrev pub invariant-loop-i : goal.invariant-loop-i
-invariant-loop-i l = (l.i ≤ l.initial.buffer) × Left l.buffer l.next (lines (slot_at (words_in l.tag) l.codes l.shapes l.count) l.i (l.initial.buffer - l.i)) l.at l.words (lines (slot_at (words_in l.tag) l.codes l.shapes l.count) 0 l.initial.buffer)
+invariant-loop-i l = (l.i ≤ l.count) × Left l.buffer l.next (lines (slot_at (words_in l.words) l.tag l.codes l.shapes) l.i (l.count - l.i)) l.initial.buffer l.at (lines (slot_at (words_in l.words) l.tag l.codes l.shapes) 0 l.count)
 
 abbrev pub decreases-loop-i : goal.decreases-loop-i
-decreases-loop-i l = l.initial.buffer - l.i
+decreases-loop-i l = l.count - l.i

@@ -13,7 +13,7 @@ loop-p-init c = (omega arith, no_slots _ _ _ _ _ _)
 
 pub loop-p-preserved : goal.loop-p-preserved
 loop-p-preserved c = (
-  omega (arith, head),
+  omega arith,
   more_slots _ _ _ _ _ _ c.loop-p.invariant.1 (search rules) (search rules)
       c.put.ensures c.put-in-loop-p.ensures c.shape_at.ensures,
 )

@@ -9,7 +9,7 @@ use Rattle.slots.proofs.Slots.{no_slots, more_slots}
 use Rattle.slots.proofs.fill_params.Given as goal
 
 abbrev pub invariant-loop-p : goal.invariant-loop-p
-invariant-loop-p l = (l.p ≤ l.count) × SlotsFilled l.p (λ k. (param_in l.initial.paramshapes k).qualifier) (λ k. (param_in l.initial.paramshapes k).typerow) l.words l.kinds l.paramwords l.paramshapes
+invariant-loop-p l = (l.p ≤ l.count) × SlotsFilled l.p (λ k. (param_in l.params k).qualifier) (λ k. (param_in l.params k).typerow) l.words l.kinds l.paramwords l.paramshapes
 
 abbrev pub decreases-loop-p : goal.decreases-loop-p
 decreases-loop-p l = l.count - l.p

@@ -10,7 +10,7 @@ use Rattle.slots.proofs.Variables.{none_filled, more_filled}
 use Rattle.slots.proofs.fill_variables_of_params.Given as goal
 
 abbrev pub invariant-loop-i : goal.invariant-loop-i
-invariant-loop-i l = (l.i ≤ l.count) × VariablesFilled l.first (in_params (take l.i l.initial.variables)) l.words l.params l.variables
+invariant-loop-i l = (l.i ≤ l.count) × VariablesFilled l.first (in_params (take l.i l.params)) l.words l.initial.variables l.variables
 
 abbrev pub decreases-loop-i : goal.decreases-loop-i
 decreases-loop-i l = l.count - l.i

@@ -14,7 +14,7 @@ loop-i-init c = (omega arith, none_filled _ _ _)
 pub loop-i-preserved : goal.loop-i-preserved
 loop-i-preserved c = (
   omega arith,
-  more_filled _ _ (λ code row. in_form row.form code) c.args.t1 c.loop-i.i _
+  more_filled _ _ (λ code row. in_form row.form code) _ c.loop-i.i _
       (search rules) c.loop-i.invariant.1 c.fill_variables_of_form.ensures,
 )
 

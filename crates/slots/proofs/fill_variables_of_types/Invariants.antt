@@ -9,7 +9,7 @@ use Rattle.slots.proofs.Variables.{none_filled, more_filled}
 use Rattle.slots.proofs.fill_variables_of_types.Given as goal
 
 abbrev pub invariant-loop-i : goal.invariant-loop-i
-invariant-loop-i l = (l.i ≤ l.count) × VariablesFilled l.first (in_types (take l.i l.initial.variables)) l.words l.types l.variables
+invariant-loop-i l = (l.i ≤ l.count) × VariablesFilled l.first (in_types (take l.i l.types)) l.words l.initial.variables l.variables
 
 abbrev pub decreases-loop-i : goal.decreases-loop-i
 decreases-loop-i l = l.count - l.i

@@ -7,7 +7,6 @@ use mathlib.Core.Bool.{true}
 use mathlib.Core.Path.{◌≡◌, sym, ◌∙◌}
 use borrow.Author.Count.{below_more}
 use borrow.Author.Rules.{rules}
-use borrow.Author.Tests.{not-true, not-false}
 use Rattle.closed.specs.Members.{member}
 use Rattle.closed.proofs.members.holds_all.Given as goal
 
