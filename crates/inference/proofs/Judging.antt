@@ -1,12 +1,11 @@
 -- Each exit of an infer call is one of the answers of document 01.
 use Prim.Native.Nat.{ℕ, zero, suc, ◌≤◌, ◌<◌}
 use native.Mathlib.Omega.{arith}
-use mathlib.Core.Bool.{Bool, true, not}
+use mathlib.Core.Bool.{Bool, true, false}
 use mathlib.Core.List.{List, [], ◌∷◌}
 use mathlib.Core.Path.{◌≡◌, refl, sym, ap, subst, subst₂, ◌∙◌}
 use lib.ListN.{length, take}
 use Rattle.model.specs.Machine.{Machine}
-use borrow.Author.Tests.{not-true}
 use Rattle.model.specs.Closed.{Closed}
 use Rattle.model.specs.Inference.{ruling, Slot, Shape, Cause, Refusal, FloorsMet, FloorMissed, Judged, not_closed, not_typable, below_floor, typed}
 use Rattle.model.specs.Session.{refusing, Infers, short, refused, accepted}
@@ -75,10 +74,10 @@ accepted_row z (typed closed a met) = typed closed a met
 
 module _ {m : Machine} {r : Verdict} where
   -- 10
-  pub judges_open : (closed : Bool) → Decides m closed → not closed ≡ true → r.number ≡ 10 → r.row ≡ 0 → Judges m r
+  pub judges_open : (closed : Bool) → Decides m closed → closed ≡ false → r.number ≡ 10 → r.row ≡ 0 → Judges m r
   judges_open closed decides e is at =
       record {
-        judged = rw (is, at) (not_closed (decides.not_closed (not-true closed e)));
+        judged = rw (is, at) (not_closed (decides.not_closed e));
         matches = λ z. let no : ⊥ = omega arith in absurd no;
       }
 

@@ -1,7 +1,7 @@
 -- An accepted program's job, as the first point of a run.
 use Prim.Native.Nat.{ℕ, suc, ◌-◌, ◌≤◌, ◌<◌, min}
 use native.Mathlib.Omega.{arith}
-use mathlib.Core.Bool.{Bool, true, false, not, false≢true}
+use mathlib.Core.Bool.{Bool, true, false, false≢true}
 use mathlib.Core.List.{List}
 use mathlib.Core.Path.{◌≡◌, refl, sym, ap, subst, ◌∙◌}
 use lib.ListN.{length, get_or, replicate, length-replicate}
@@ -87,14 +87,14 @@ module _ (t : Table) (ready : Ready t) (codes : Codes) (judged : Judged (ruling 
 
   module _ (numbers : List ℕ) where
     -- What the numbers were put for, by what `lead` answers.
-    pub unled : (f : Frames) (r : Bool) → not r ≡ true → Leads m word (coded_shape codes) numbers f r → Unfit m (coded_shape codes) numbers
+    pub unled : (f : Frames) (r : Bool) → r ≡ false → Leads m word (coded_shape codes) numbers f r → Unfit m (coded_shape codes) numbers
     unled f false e leads = leads
-    unled f true e leads = absurd (false≢true e)
+    unled f true e leads = absurd (false≢true (sym e))
 
-    pub led : (f : Frames) (r : Bool) → not r ≡ false → Leads m word (coded_shape codes) numbers f r →
+    pub led : (f : Frames) (r : Bool) → r ≡ true → Leads m word (coded_shape codes) numbers f r →
         (length numbers ≡ length (leading m)) × NoArrow m (coded_shape codes) × Led m word numbers f
     led f true e leads = leads
-    led f false e leads = absurd (false≢true (sym e))
+    led f false e leads = absurd (false≢true e)
 
     pub few_numbers : length numbers ≡ length (leading m) → length numbers ≤ 256
     few_numbers e = omega (arith, leading_most m ready.is_well_formed)

@@ -1,6 +1,5 @@
 -- Each way through `judge` is one of the judgements.
 use mathlib.Core.Path.{refl}
-use borrow.Author.Tests.{not-false}
 use Rattle.inference.proofs.Judging.{judges_open, judges_untypable}
 use borrow.Author.Rules.{rules}
 use Rattle.inference.proofs.judge.Goals as goal
@@ -9,10 +8,10 @@ pub returns-then-not-is_closed : goal.returns-then-not-is_closed
 returns-then-not-is_closed c = judges_open _ c.is_closed.ensures c.if-not-is_closed.true refl refl
 
 pub solve-solved-requires : goal.solve-solved-requires
-solve-solved-requires c = (c.requires, (c.is_closed.ensures.closed (not-false _ c.if-not-is_closed.false)).some-row)
+solve-solved-requires c = (c.requires, (c.is_closed.ensures.closed c.if-not-is_closed.false).some_row)
 
 pub above_floors-requires : goal.above_floors-requires
-above_floors-requires c = (c.requires, c.is_closed.ensures.closed (not-false _ c.if-not-is_closed.false), rw c.in-Placed.is at c.solve-solved.ensures)
+above_floors-requires c = (c.requires, c.is_closed.ensures.closed c.if-not-is_closed.false, rw c.in-Placed.is at c.solve-solved.ensures)
 
 pub returns-in-Refused : goal.returns-in-Refused
-returns-in-Refused c = judges_untypable (c.is_closed.ensures.closed (not-false _ c.if-not-is_closed.false)) (rw c.in-Refused.is at c.solve-solved.ensures) refl refl
+returns-in-Refused c = judges_untypable (c.is_closed.ensures.closed c.if-not-is_closed.false) (rw c.in-Refused.is at c.solve-solved.ensures) refl refl

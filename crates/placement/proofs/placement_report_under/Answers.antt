@@ -8,7 +8,7 @@ pub returns-then-buffer-lt-REPORT : goal.returns-then-buffer-lt-REPORT
 returns-then-buffer-lt-REPORT c = ReturnsUnder.short c.if-buffer-lt-REPORT.true
 
 pub returns-then-opened-ne0 : goal.returns-then-opened-ne0
-returns-then-opened-ne0 c = file_refused _ _ _ _ c.before.before.before.«open».ensures c.if-opened-ne0.true c.if-buffer-lt-REPORT.false
+returns-then-opened-ne0 c = file_refused _ _ _ _ c.open-opened.ensures c.if-opened-ne0.true c.if-buffer-lt-REPORT.false
 
 pub returns : goal.returns
-returns c = file_accepted _ _ _ _ c.before.before.before.before.before.before.«open».ensures c.if-opened-ne0.false c.report.ensures
+returns c = file_accepted _ _ _ _ c.open-opened.ensures c.if-opened-ne0.false c.report.ensures

@@ -8,7 +8,7 @@ pub returns-then-answer-lt-ANSWER : goal.returns-then-answer-lt-ANSWER
 returns-then-answer-lt-ANSWER c = RunReturnsUnder.short c.if-answer-lt-ANSWER.true
 
 pub returns-then-under-ne0 : goal.returns-then-under-ne0
-returns-then-under-ne0 c = run_file_refused _ _ _ _ _ _ c.before.before.before.«open».ensures c.if-under-ne0.true c.if-answer-lt-ANSWER.false
+returns-then-under-ne0 c = run_file_refused _ _ _ _ _ _ c.open-under.ensures c.if-under-ne0.true c.if-answer-lt-ANSWER.false
 
 pub returns : goal.returns
-returns c = run_file_accepted _ _ _ _ _ _ c.before.before.before.before.before.before.«open».ensures c.if-under-ne0.false c.run_text.ensures
+returns c = run_file_accepted _ _ _ _ _ _ c.open-under.ensures c.if-under-ne0.false c.run_text.ensures

@@ -6,7 +6,7 @@ use Rattle.script.proofs.Keeping.{Keeping, keep_first, keep_full, keep_byte, kee
 use Rattle.script.proofs.keep.Given as goal
 
 abbrev pub invariant-loop-i : goal.invariant-loop-i
-invariant-loop-i l = Keeping l.count l.part l.initial.kept l.kept l.at l.i
+invariant-loop-i l = Keeping l.initial.kept l.count l.part l.kept l.at l.i
 
 abbrev pub decreases-loop-i : goal.decreases-loop-i
-decreases-loop-i l = length l.initial.kept - l.i
+decreases-loop-i l = length l.part - l.i
