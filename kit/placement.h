@@ -2,7 +2,7 @@
  * placement, for a key loader in C or C++: a whole table in, its report or a refusal out, under the built-in six schemes or under a
  * scheme file of the owner's; or a script of commands in, the answers out. For testers: a table and numbers in, the result of a dry run out.
  *
- * Link with libplacement.a, which `rt staticlib placement` writes to target/staticlib. The archive is for x86-64 Linux and needs nothing
+ * Link with libplacement.a, which `kit/archive placement` writes to target/staticlib. The archive is for x86-64 Linux and needs nothing
  * else but memcpy and memset of the C library. docs/NUMBERS.md has an example and a fix for every refusal.
  */
 #ifndef PLACEMENT_H

@@ -1,6 +1,6 @@
 //! Links libplacement.a, the archive of the proved library.
 //!
-//! It is looked for in target/staticlib of the repository, where `rt staticlib placement` writes it,
+//! It is looked for in target/staticlib of the repository, where `kit/archive placement` writes it,
 //! or in the folder that the environment variable PLACEMENT_STATICLIB names.
 
 use std::env;
@@ -13,7 +13,7 @@ fn main() {
     let archive = folder.join("libplacement.a");
     if !archive.is_file() {
         panic!(
-            "{} is missing: run `rt staticlib placement` first",
+            "{} is missing: run `kit/archive placement` first",
             archive.display()
         );
     }

@@ -1,6 +1,6 @@
 //! Links the static libraries of the proved crates that archives.txt lists.
 //!
-//! They are looked for in target/staticlib of the repository, where `rt staticlib NAME` writes them,
+//! They are looked for in target/staticlib of the repository, where `kit/archive NAME` writes them,
 //! or in the folder that the environment variable PLACEMENT_STATICLIB names.
 
 use std::env;
@@ -32,7 +32,7 @@ fn names(package: &Path) -> String {
 fn link(folder: &Path, name: &str) {
     let archive = folder.join(format!("lib{name}.a"));
     if !archive.is_file() {
-        panic!("{} is missing: run `rt staticlib {name}` first", archive.display());
+        panic!("{} is missing: run `kit/archive {name}` first", archive.display());
     }
     println!("cargo:rerun-if-changed={}", archive.display());
     println!("cargo:rustc-link-lib=static={name}");

@@ -6,7 +6,7 @@ use mathlib.Core.List.{List, [], ◌∷◌}
 use mathlib.Core.Path.{◌≡◌, refl, sym, ◌∙◌}
 use lib.Dec.{eqb, ltb}
 use lib.ListN.{length}
-use borrow.Author.Tests.{eq-eqb, ne_eqb, lt-ltb, le-ltb, not-true, not-false}
+use borrow.Author.Tests.{eq-eqb, ne_eqb, lt-ltb, le-ltb}
 use Rattle.model.specs.Lists.{any_of, all_of}
 use Rattle.model.specs.Machine.{Machine, children, named, binds, parts, used, bound, twice, first_failing, type_refusal, param_refusal, term_refusal}
 use Rattle.model.specs.declared.TypeForm.{TypeForm}
@@ -104,34 +104,34 @@ module _ (m : Machine) (own : ℕ) (term : Term) (n k : ℕ) (count : n ≡ leng
     unfolding term_refusal
     after_place = rw (← count, is5, params) (in_place own n 256 k _ is holds)
 
-    pub refused_5 : not named-declared ≡ true → 5 ≡ term_refusal m own term
-    refused_5 h = sym (after_place ∙ fails 5 _ _ (not-true _ h))
+    pub refused_5 : named-declared ≡ false → 5 ≡ term_refusal m own term
+    refused_5 h = sym (after_place ∙ fails 5 _ _ h)
 
-    module _ (holds5 : not named-declared ≡ false) (below : Bool) (is6 : below ≡ all_of (λ c. ltb c own) (children term)) where
+    module _ (holds5 : named-declared ≡ true) (below : Bool) (is6 : below ≡ all_of (λ c. ltb c own) (children term)) where
       after_5 : term_refusal m own term ≡ first_failing (
           (6, below)
           ∷ (7, not (any_of (used m.terms) (children term)) && not (twice (children term)))
           ∷ (8, not (any_of (bound m.terms) (binds term)))
           ∷ [])
-      after_5 = after_place ∙ holding 5 _ _ (not-false _ holds5) ∙ rw is6
+      after_5 = after_place ∙ holding 5 _ _ holds5 ∙ rw is6
 
-      pub refused_6 : not below ≡ true → 6 ≡ term_refusal m own term
-      refused_6 h = sym (after_5 ∙ fails 6 _ _ (not-true _ h))
+      pub refused_6 : below ≡ false → 6 ≡ term_refusal m own term
+      refused_6 h = sym (after_5 ∙ fails 6 _ _ h)
 
-      module _ (holds6 : not below ≡ false) (free : Bool) (is7 : free ≡ (not (any_of (used m.terms) (children term)) && not (twice (children term)))) where
+      module _ (holds6 : below ≡ true) (free : Bool) (is7 : free ≡ (not (any_of (used m.terms) (children term)) && not (twice (children term)))) where
         after_6 : term_refusal m own term ≡ first_failing ((7, free) ∷ (8, not (any_of (bound m.terms) (binds term))) ∷ [])
-        after_6 = after_5 ∙ holding 6 _ _ (not-false _ holds6) ∙ rw is7
+        after_6 = after_5 ∙ holding 6 _ _ holds6 ∙ rw is7
 
-        pub refused_7 : not free ≡ true → 7 ≡ term_refusal m own term
-        refused_7 h = sym (after_6 ∙ fails 7 _ _ (not-true _ h))
+        pub refused_7 : free ≡ false → 7 ≡ term_refusal m own term
+        refused_7 h = sym (after_6 ∙ fails 7 _ _ h)
 
-        module _ (holds7 : not free ≡ false) (unbound : Bool) (is8 : unbound ≡ not (any_of (bound m.terms) (binds term))) where
+        module _ (holds7 : free ≡ true) (unbound : Bool) (is8 : unbound ≡ not (any_of (bound m.terms) (binds term))) where
           after_7 : term_refusal m own term ≡ first_failing ((8, unbound) ∷ [])
-          after_7 = after_6 ∙ holding 7 _ _ (not-false _ holds7) ∙ rw is8
+          after_7 = after_6 ∙ holding 7 _ _ holds7 ∙ rw is8
 
-          pub refused_8 : not unbound ≡ true → 8 ≡ term_refusal m own term
-          refused_8 h = sym (after_7 ∙ fails 8 _ _ (not-true _ h))
+          pub refused_8 : unbound ≡ false → 8 ≡ term_refusal m own term
+          refused_8 h = sym (after_7 ∙ fails 8 _ _ h)
 
-          pub term_accepted : not unbound ≡ false → 0 ≡ term_refusal m own term
+          pub term_accepted : unbound ≡ true → 0 ≡ term_refusal m own term
           unfolding first_failing
-          term_accepted h = sym (after_7 ∙ simp (not-false unbound h))
+          term_accepted h = sym (after_7 ∙ simp h)

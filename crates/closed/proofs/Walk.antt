@@ -3,13 +3,13 @@
 use Prim.Native.Nat.{ℕ, ◌+◌, ◌-◌, ◌≤◌, ◌<◌}
 use native.Mathlib.Decide.{ℕ_discrete}
 use native.Mathlib.Omega.{arith}
-use mathlib.Core.Bool.{Bool, true, false, not, ◌||◌, or-true, false≢true}
+use mathlib.Core.Bool.{Bool, true, false, ◌||◌, or-true, false≢true}
 use mathlib.Core.List.{List}
 use mathlib.Core.Path.{◌≡◌, refl, ap, sym, subst, ◌∙◌}
 use lib.Dec.{eqb}
 use lib.ListN.{length, get_or, set, length-set}
 use lib.Seq.{get_or-set_same, get_or-set_other}
-use borrow.Author.Tests.{eq-eqb, not-true, not-false}
+use borrow.Author.Tests.{eq-eqb}
 use Rattle.scheme.specs.Schemes.{words}
 use Rattle.model.specs.Lists.{all_of, contains}
 use Rattle.model.specs.Machine.{Machine, no_term_row, term_at, children, binds, used}
@@ -214,16 +214,16 @@ module _ (t : Table) (w : WellFormed (lists t)) (marks scopes : List ℕ) (i : �
   row_not_reached unmarked = record { tree = λ e. absurd (false≢true e); no_tree = λ e. not_reached (lists t) w marks scopes i walked (i - 1) (omega arith) unmarked }
 
   module _ (mark : get_or marks (i - 1) 0 ≡ 0 → ⊥) (found : Bool) (test : found ≡ all_of (member (get_or scopes (i - 1) 0)) (reads (get_or t.terms (i - 1) no_term_row).term)) where
-    pub var_not_found : not found ≡ true → DecidesTree (lists t) false
+    pub var_not_found : found ≡ false → DecidesTree (lists t) false
     var_not_found h =
         record {
           tree = λ e. absurd (false≢true e);
-          no_tree = λ e. not_inside (lists t) w marks scopes i walked (i - 1) (omega arith) mark (ap (λ (term : Term). all_of (member (get_or scopes (i - 1) 0)) (reads term)) row_is ∙ sym test ∙ not-true found h);
+          no_tree = λ e. not_inside (lists t) w marks scopes i walked (i - 1) (omega arith) mark (ap (λ (term : Term). all_of (member (get_or scopes (i - 1) 0)) (reads term)) row_is ∙ sym test ∙ h);
         }
 
-    pub row_turned : not found ≡ false → (inner : ℕ) → ((q : ℕ) → q < 64 → member inner q ≡ (contains q (binds (get_or t.terms (i - 1) no_term_row).term) || member (get_or scopes (i - 1) 0) q)) →
+    pub row_turned : found ≡ true → (inner : ℕ) → ((q : ℕ) → q < 64 → member inner q ≡ (contains q (binds (get_or t.terms (i - 1) no_term_row).term) || member (get_or scopes (i - 1) 0) q)) →
         (k : Children) → listed k ≡ children (get_or t.terms (i - 1) no_term_row).term → (cs : List ℕ) → listed k ≡ cs → Walked (lists t) (stores cs 1 marks) (stores cs inner scopes) (i - 1)
     row_turned h inner grown k kids cs are =
         turn (lists t) w marks scopes i walked (i - 1) (omega arith) mark cs inner (ap children row_is ∙ sym kids ∙ are)
         (λ q below. grown q below ∙ ap (λ (term : Term). contains q (binds term) || member (get_or scopes (i - 1) 0) q) (sym row_is))
-        (ap (λ (term : Term). all_of (member (get_or scopes (i - 1) 0)) (reads term)) row_is ∙ sym test ∙ not-false found h)
+        (ap (λ (term : Term). all_of (member (get_or scopes (i - 1) 0)) (reads term)) row_is ∙ sym test ∙ h)

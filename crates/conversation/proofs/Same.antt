@@ -60,12 +60,31 @@ Says m (Script.schemes file) w after = (w ≡ line (decimal (restarted m file).n
 Says m (Script.run budget numbers) w after = (o : Run.Outcome) × DryRuns m numbers budget o × (w ≡ ran_line m o) × (after ≡ m)
 Says m Script.no_command w after = (w ≡ unknown) × (after ≡ m)
 
+-- The same of each call, where the call is known first.
+add_says : (m : Machine) (s : List ℕ) {o : Outcome} {after : Machine} → Answers m (Call.add s) o after → Says m (Script.add s) (answer (Call.add s) o) after
+unfolding Says
+add_says m s adds = (refl, refl)
+
+redeclare_says : (m : Machine) (p code : ℕ) {o : Outcome} {after : Machine} → Answers m (Call.redeclare p code) o after →
+    Says m (Script.redeclare p code) (answer (Call.redeclare p code) o) after
+unfolding Says
+redeclare_says m p code redeclares = (refl, refl)
+
+take_back_says : (m : Machine) {o : Outcome} {after : Machine} → Answers m Call.take_back o after → Says m Script.take_back (answer Call.take_back o) after
+unfolding Says
+take_back_says m takes_back = (refl, refl)
+
+infer_says : (m : Machine) (buffer : List ℕ) {o : Outcome} {after : Machine} → 6280 ≤ length buffer → Answers m (Call.infer buffer) o after →
+    Says m Script.infer (answer (Call.infer buffer) o) after
+unfolding Says
+infer_says m buffer long (infers i) = (_, _, long, i, refl, refl)
+
 call_says : {m after : Machine} {c : Command} {call : Call} {o : Outcome} → Makes c call → Answers m call o after → Says m c (answer call o) after
 unfolding Says
-call_says Makes.adds adds = (refl, refl)
-call_says Makes.redeclares redeclares = (refl, refl)
-call_says Makes.takes_back takes_back = (refl, refl)
-call_says (Makes.infers long) (infers i) = (_, _, long, i, refl, refl)
+call_says {m} (Makes.adds {s}) h = add_says m s h
+call_says {m} (Makes.redeclares {p} {code}) h = redeclare_says m p code h
+call_says {m} Makes.takes_back h = take_back_says m h
+call_says {m} (Makes.infers {buffer} long) h = infer_says m buffer long h
 
 says_as : (m : Machine) (w : List ℕ) (after : Machine) {c c' : Command} → c ≡ c' → Says m c w after → Says m c' w after
 says_as m w after e says = subst (λ (c : Command). Says m c w after) e says

@@ -1,11 +1,10 @@
 -- Each expression has at most one next step, and each run one outcome.
-use Prim.Native.Nat.{ℕ, zero, suc, ◌+◌, ◌≤◌, ◌<◌}
+use Prim.Native.Nat.{ℕ, ◌≤◌}
 use native.Mathlib.Omega.{arith}
-use mathlib.Core.List.{List}
-use mathlib.Core.Path.{◌≡◌, refl, sym, ap, ap₂, subst}
-use Rattle.dryrun.specs.Expression.{Expression, number, variable, function, apply, operate, Value, a_number, a_function, substituted}
-use Rattle.dryrun.specs.Transition.{Rule, Kind, application, operation, calculated, result_tag, Step, applies, operates, in_function, in_argument, in_left, in_right}
-use Rattle.dryrun.specs.Run.{Answer, Counts, Outcome, steps, counted, largest_number, Fits, applying, in_range, Runs, ends_number, ends_function, out_of_budget, too_deep, overflows, steps_on}
+use mathlib.Core.Path.{◌≡◌, refl, sym, subst}
+use Rattle.dryrun.specs.Expression.{Expression, number, variable, function, apply, operate, Value, a_number, a_function}
+use Rattle.dryrun.specs.Transition.{Rule, Kind, operation, calculated, result_tag, Step, applies, operates, in_function, in_argument, in_left, in_right}
+use Rattle.dryrun.specs.Run.{Counts, Outcome, largest_number, Fits, in_range, Runs, ends_number, ends_function, out_of_budget, too_deep, overflows, steps_on}
 
 -- A value is no application and no operation.
 abbrev pub Finished : Expression → Type 0
@@ -40,13 +39,23 @@ module _ {W : Rule} where
   pub value_stays : {c : ℕ} {k : Kind} {v e : Expression} → Value v → Step W c k v e → ⊥
   value_stays v s = step_unfinished s (value_finished v)
 
+  -- The step of an operation on two numbers is that operation.
+  operates_same : {c : ℕ} {k : Kind} {e e'' : Expression} (o x y tag : ℕ) → Step W c k e e'' → e ≡ operate o (number x tag) (number y tag) →
+      Same 0 c (operation (calculated o x y)) k (number (calculated o x y) (result_tag o tag)) e''
+  operates_same o x y tag (applies v) h = cc h
+  operates_same o x y tag (operates {o = o'} {x = x'} {y = y'} {tag = tag'} w) h =
+      let eo : o ≡ o' = cc h in let ex : x ≡ x' = cc h in let ey : y ≡ y' = cc h in let et : tag ≡ tag' = cc h in
+      record { contexts = refl; kind = cc (eo, ex, ey); after = cc (eo, ex, ey, et) }
+  operates_same o x y tag (in_function s) h = cc h
+  operates_same o x y tag (in_argument w s) h = cc h
+  operates_same o x y tag (in_left {l} s) h = let e : l ≡ number x tag = cc h in absurd (value_stays (subst Value (sym e) a_number) s)
+  operates_same o x y tag (in_right {r} w s) h = let e : r ≡ number y tag = cc h in absurd (value_stays (subst Value (sym e) a_number) s)
+
   pub step_same : {c c' : ℕ} {k k' : Kind} {e e' e'' : Expression} → Step W c k e e' → Step W c' k' e e'' → Same c c' k k' e' e''
   step_same (applies v) (applies v') = record { contexts = refl; kind = refl; after = refl }
   step_same (applies v) (in_function s) = absurd (value_stays a_function s)
   step_same (applies v) (in_argument w s) = absurd (value_stays v s)
-  step_same (operates h) (operates h') = record { contexts = refl; kind = refl; after = refl }
-  step_same (operates h) (in_left s) = absurd (value_stays a_number s)
-  step_same (operates h) (in_right w s) = absurd (value_stays a_number s)
+  step_same (operates {o} {x} {y} {tag} h) s = operates_same o x y tag s refl
   step_same (in_function s) (applies v) = absurd (value_stays a_function s)
   step_same (in_function s) (in_function s') = let h = step_same s s' in record { contexts = cc h.contexts; kind = h.kind; after = cc h.after }
   step_same (in_function s) (in_argument w s') = absurd (value_stays w s)

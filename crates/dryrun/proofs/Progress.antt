@@ -1,16 +1,15 @@
 -- A typed expression without free parameters is a value or makes a step: a run never gets stuck.
 -- Source document 001, section 1.4, Lemma 1.
-use Prim.Native.Nat.{ℕ, zero, suc, ◌+◌, ◌≤◌, ◌<◌}
+use Prim.Native.Nat.{ℕ}
 use native.Mathlib.Omega.{arith}
-use mathlib.Core.Bool.{Bool, true, false, cond, ◌||◌, false≢true}
-use mathlib.Core.Path.{◌≡◌, refl, sym, ap, ap₂, subst, subst₂, ◌∙◌}
-use lib.Dec.{eqb}
+use mathlib.Core.Bool.{false≢true}
+use mathlib.Core.Path.{◌≡◌, refl, sym, subst, ◌∙◌}
 use borrow.Author.Tests.{eq-eqb}
-use Rattle.model.specs.Strength.{Schemes, whole}
-use Rattle.model.specs.Typing.{Ty, int, arrow, Assignment, result_qualifier}
+use Rattle.model.specs.Strength.{Schemes}
+use Rattle.model.specs.Typing.{Ty, int, arrow, Assignment}
 use Rattle.model.proofs.Unique.{Lawful}
-use Rattle.dryrun.specs.Expression.{Expression, number, variable, function, apply, operate, Value, a_number, a_function, substituted}
-use Rattle.dryrun.specs.Transition.{Rule, Kind, application, operation, calculated, result_tag, Step, applies, operates, in_function, in_argument, in_left, in_right, Tagged, supported, Meets, Goes, over, on}
+use Rattle.dryrun.specs.Expression.{Expression, number, variable, function, apply, operate, Value, a_number, a_function}
+use Rattle.dryrun.specs.Transition.{Rule, applies, operates, in_function, in_argument, in_left, in_right, Tagged, supported, Meets, Goes, over, on}
 use Rattle.dryrun.specs.Run.{Counts, Reaches, itself, further}
 use Rattle.dryrun.proofs.Typed.{Typed, preserved, one_tag}
 use Rattle.dryrun.proofs.Free.{neither, step_none_free}
@@ -23,6 +22,9 @@ module _ (S : Schemes) (lawful : Lawful S) (s : Assignment S.Q) where
   applied_value : (f a : Expression) → Value f → Value a → (κ q q' : S.Q) (τ τ' : Ty S.Q) → Typed S s f κ (arrow q' τ' q τ) → Goes (Tagged S) (apply f a)
   applied_value (number n tag) a a_number v κ q q' τ τ' (known, eκ, e) = absurd (int_no_arrow (sym e))
   applied_value (function p b) a a_function v κ q q' τ τ' t = on (applies v)
+  applied_value (variable _) a x4 v κ q q' τ τ' t = elim x4 [ ]
+  applied_value (apply _ _) a x6 v κ q q' τ τ' t = elim x6 [ ]
+  applied_value (operate _ _ _) a x8 v κ q q' τ τ' t = elim x8 [ ]
 
   operated_values : (o : ℕ) (l r : Expression) → Value l → Value r → (κ : S.Q) → Typed S s l κ int → Typed S s r κ int → S.AtOrBelow κ (S.highest o) → Goes (Tagged S) (operate o l r)
   operated_values o (number x t) (number y u) a_number a_number κ (known, eκ, e₁) (known', eκ', e₂) fits =
@@ -31,6 +33,12 @@ module _ (S : Schemes) (lawful : Lawful S) (s : Assignment S.Q) where
       (on (operates (supported (subst (λ (κ : S.Q). S.AtOrBelow κ (S.highest o)) eκ fits))))
   operated_values o (number x t) (function p b) a_number a_function κ left (plain, q', τ', tb, e) fits = absurd (int_no_arrow e)
   operated_values o (function p b) r a_function v κ (plain, q', τ', tb, e) right fits = absurd (int_no_arrow e)
+  operated_values o (number x t) (variable _) _ v κ left right fits = elim v [ ]
+  operated_values o (number x t) (apply _ _) _ v κ left right fits = elim v [ ]
+  operated_values o (number x t) (operate _ _ _) _ v κ left right fits = elim v [ ]
+  operated_values o (variable _) r x7 v κ left right fits = elim x7 [ ]
+  operated_values o (apply _ _) r x9 v κ left right fits = elim x9 [ ]
+  operated_values o (operate _ _ _) r x11 v κ left right fits = elim x11 [ ]
 
   pub progress : (e : Expression) → NoneFree e → (q : S.Q) (τ : Ty S.Q) → Typed S s e q τ → Goes (Tagged S) e
   progress (number n tag) none q τ t = over a_number

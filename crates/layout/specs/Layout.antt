@@ -1,5 +1,5 @@
 -- The solver's nodes: which stand for what, and how many places its arrays have. Another layout is a change of this file and of src/lib.rt.
-use Rattle.std.specs.Prelude.{ℕ, ◌+◌, ◌*◌}
+use Rattle.std.specs.Prelude.{ℕ, ◌+◌}
 
 -- A type's node is its type row, 0 to 63; then come the term rows'.
 abbrev pub row_type : ℕ → ℕ

@@ -10,6 +10,7 @@ use types.Logic.{Logic}
 use contract.Monad.{Fun, fact, fact_mono}
 use contract.Lifetimes.{Lfts}
 use denote.Ref.{Bor}
+use denote.MutBor.{MutBor}
 use Rattle.model.specs.Machine.{added, redeclared, taken_back}
 use Rattle.model.specs.Session.{add, redeclare, take_back}
 use Rattle.table.specs.declared.Table.{Table}
@@ -34,7 +35,7 @@ pub take_back_covered : (before after : Table) (number : ℕ) → (change (left 
 take_back_covered before after number e = takes_back e.0 e.1
 
 -- The same from the `ensures` itself, at the reference as it was passed and as it was left.
-module _ {M : Type 1} {𝓤 : Ura M} (𝓛 : Logic 𝓤) (at_mem : Memory → SProp 𝓤) (run : Routine → Fun 𝓤) (table table' : Bor Table) (number : ℕ) where
+module _ {M : Type 1} {𝓤 : Ura M} (𝓛 : Logic 𝓤) (at_mem : Memory → SProp 𝓤) (run : Routine → Fun 𝓤) (table table' : MutBor Table) (number : ℕ) where
   pub add_ensures : (κs : Lfts 2) (line : Bor (List ℕ)) → ent 𝓤 ((lent-add.clauses 𝓛 at_mem run κs (table, (line, tt))).ensures tt number (table', (line, tt))) (fact 𝓤 (Called table.now (add line.now) (left table'.now number)))
   add_ensures κs line = fact_mono 𝓤 _ _ (add_covered table.now table'.now line.now number)
 

@@ -9,7 +9,7 @@ use table::Table;
 
 // Adds the entry that a line's bytes spell, or refuses it. Returns the number of the refusal, or 0, as the next two do.
 pub fn add(table: &mut Table, line: &[u8]) -> u16
-    ensures { (change (record { table = table.exit.now; number = result }) ≡ added (lists table.entry.now) line.now) × (table.exit.now.schemes ≡ table.entry.now.schemes) }
+    ensures { (change (record { table = table.new; number = result }) ≡ added (lists table.old) line.now) × (table.new.schemes ≡ table.old.schemes) }
 {
     let answered = Table::add(*table, line);
     *table = answered.table;
@@ -18,7 +18,7 @@ pub fn add(table: &mut Table, line: &[u8]) -> u16
 
 // Replaces a parameter's qualifier, or refuses to.
 pub fn redeclare(table: &mut Table, p: usize, code: usize) -> u16
-    ensures { (change (record { table = table.exit.now; number = result }) ≡ redeclared (lists table.entry.now) p code) × (table.exit.now.schemes ≡ table.entry.now.schemes) }
+    ensures { (change (record { table = table.new; number = result }) ≡ redeclared (lists table.old) p code) × (table.new.schemes ≡ table.old.schemes) }
 {
     let answered = Table::redeclare(*table, p, code);
     *table = answered.table;
@@ -27,7 +27,7 @@ pub fn redeclare(table: &mut Table, p: usize, code: usize) -> u16
 
 // Drops the last term row, or refuses where there is none.
 pub fn take_back(table: &mut Table) -> u16
-    ensures { (change (record { table = table.exit.now; number = result }) ≡ taken_back (lists table.entry.now)) × (table.exit.now.schemes ≡ table.entry.now.schemes) }
+    ensures { (change (record { table = table.new; number = result }) ≡ taken_back (lists table.old)) × (table.new.schemes ≡ table.old.schemes) }
 {
     let answered = Table::take_back(*table);
     *table = answered.table;

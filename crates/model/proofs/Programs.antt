@@ -1,8 +1,8 @@
 -- The lengths of a program's arrays.
-use mathlib.Core.Path.{◌≡◌, sym, ◌∙◌}
+use mathlib.Core.Path.{◌≡◌}
 use denote.Laws.{Is}
 use denote.Struct.Laws as Struct
-use lib.ListN.{length, length-map}
+use lib.ListN.{length}
 use Rattle.model.specs.declared.Program.{Program}
 use Rattle.model.specs.contracts.Program as ProgramType
 use Rattle.model.proofs.Program.TheLaws as ProgramLaws
@@ -13,10 +13,10 @@ Owned program = Is ProgramType.the_row program (Struct.vals ProgramType.the_type
 
 module _ (program : Program) (owned : Owned program) where
   pub types_whole : length program.types ≡ 64
-  types_whole = sym (length-map program.types _) ∙ (Struct.owed ProgramType.the_type ProgramLaws.the_laws program _ owned).0.1.0.1
+  types_whole = (Struct.owed ProgramType.the_type ProgramLaws.the_laws program _ owned).0.1.0.1
 
   pub params_whole : length program.params ≡ 64
-  params_whole = sym (length-map program.params _) ∙ (Struct.owed ProgramType.the_type ProgramLaws.the_laws program _ owned).1.0.1.0.1
+  params_whole = (Struct.owed ProgramType.the_type ProgramLaws.the_laws program _ owned).1.0.1.0.1
 
   pub terms_whole : length program.terms ≡ 256
-  terms_whole = sym (length-map program.terms _) ∙ (Struct.owed ProgramType.the_type ProgramLaws.the_laws program _ owned).1.1.0.1.0.1
+  terms_whole = (Struct.owed ProgramType.the_type ProgramLaws.the_laws program _ owned).1.1.0.1.0.1

@@ -1,22 +1,22 @@
 // `place`: reads the lines of a table on standard input, and prints the report, or the refusal. A table that it did not read whole has no answer.
 #![tactic(auto)]
 
-use libc::{STDIN_FILENO, STDOUT_FILENO};
 use streams::Whole;
 
-fn main() {
+fn main(rt: HostRuntime) {
+    let mut input = rt.stdin();
     let mut text = [0u8; placement::TEXT];
-    match streams::read_whole(STDIN_FILENO, &mut text) {
-        Whole::Bytes(length) => answer(&text[..length]),
-        Whole::Failed => os::fail(b"place: standard input"),
+    match streams::read_whole(&mut input, &rt, &mut text) {
+        Whole::Bytes(length) => answer(&rt, &text[..length]),
+        Whole::Failed(error) => streams::fail(&rt, "place: standard input", error),
     }
 }
 
 // Prints what a text comes to.
-fn answer(text: &[u8]) {
+fn answer(rt: &HostRuntime, text: &[u8]) {
     let mut output = [0u8; placement::PRINTED];
     let length = placement::print(text, &mut output);
-    if !streams::write(STDOUT_FILENO, &output[..length]) {
-        os::fail(b"place: standard output");
+    if let Err(error) = streams::write(&mut rt.stdout(), rt, &output[..length]) {
+        streams::fail(rt, "place: standard output", error);
     }
 }

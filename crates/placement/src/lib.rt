@@ -1,4 +1,5 @@
-// A whole text in, a report or a refusal out, and a whole script in, all answers out: what the key loader links, and what the program prints.
+// A whole text in, a report or a refusal out, and a whole script in, all answers out: what the key loader links (by `placement_c`), and what the
+// program prints.
 #![tactic(auto)]
 
 ghost use Rattle.std.specs.Prelude.{◌≡◌, ◌≤◌, length, take};
@@ -25,16 +26,14 @@ pub const PRINTED: usize = inference::REPORT;
 
 // The loader's entry: 100,000 and the report's length with the report in the buffer; or, with the buffer as it was, 1,000 times a refusal's
 // number and its line or row.
-#[unsafe(no_mangle)]
-pub extern "C" fn placement_report(text: &[u8], buffer: &mut [u8]) -> u32
+pub fn placement_report(text: &[u8], buffer: &mut [u8]) -> u32
     ensures { Returns six_table text.now buffer.old result buffer.new }
 {
     report(Schemes::six(), text, buffer)
 }
 
 // The entry for an owner's schemes: a scheme file, then the text. A short buffer is told first, then what refuses the file; else it is as above.
-#[unsafe(no_mangle)]
-pub extern "C" fn placement_report_under(file: &[u8], text: &[u8], buffer: &mut [u8]) -> u32
+pub fn placement_report_under(file: &[u8], text: &[u8], buffer: &mut [u8]) -> u32
     ensures { ReturnsUnder file.now text.now buffer.old result buffer.new }
 {
     if buffer.len() < inference::REPORT {
@@ -49,21 +48,14 @@ pub extern "C" fn placement_report_under(file: &[u8], text: &[u8], buffer: &mut 
 
 // The entry for dry runs: 100,000 for a number and 100,001 for a function, or 1,000 times a refusal's number, with the number, its tag, the applications
 // and the operations in the answer; or, with the answer as it was, 11,000 for fewer than four places, and what refuses a line.
-#[unsafe(no_mangle)]
-pub extern "C" fn placement_run(
-    text: &[u8],
-    numbers: &[u32],
-    budget: u32,
-    answer: &mut [u32],
-) -> u32
+pub fn placement_run(text: &[u8], numbers: &[u32], budget: u32, answer: &mut [u32]) -> u32
     ensures { RunReturns six_table text.now numbers.now budget answer.old result answer.new }
 {
     run_text(Schemes::six(), text, numbers, budget, answer)
 }
 
 // The same for an owner's schemes: a short answer is told first, then what refuses the file.
-#[unsafe(no_mangle)]
-pub extern "C" fn placement_run_under(
+pub fn placement_run_under(
     file: &[u8],
     text: &[u8],
     numbers: &[u32],
@@ -127,8 +119,7 @@ fn front(text: &[u8]) -> &[u8]
 }
 
 // The loader's entry for scripts: the length of all answers, which stand in the output where there is room for all of them.
-#[unsafe(no_mangle)]
-pub extern "C" fn placement_session(script: &[u8], output: &mut [u8]) -> usize
+pub fn placement_session(script: &[u8], output: &mut [u8]) -> usize
     ensures { Responds script.now output.old result output.new }
 {
     script::respond(Layer::ByValue, script, output)

@@ -13,15 +13,6 @@ use Rattle.report.specs.Writing.{Room, Wrote, Spells, words_in}
 use Rattle.report.proofs.Tables.{size_at, words_at_lem, words_past}
 use Rattle.report.proofs.Writing.{wrote_byte}
 
--- A code that a match found to be none of the first n numbers is at least n.
-abbrev pub NoneOf : ℕ → ℕ → Type 0
-NoneOf zero code = Unit {0}
-NoneOf (suc n) code = NoneOf n code × (code ≡ n → ⊥)
-
-pub none_of : (n code : ℕ) → NoneOf n code → n ≤ code
-none_of zero code h = omega arith
-none_of (suc n) code h = let more : n ≤ code = none_of n code h.0 in omega (arith, h.1)
-
 -- An array spells the word of a code where it spells that of the number that the code was found to be.
 pub spells_at : (word : ℕ → List ℕ) {array : List ℕ} {size code k : ℕ}
     → code ≡ k → take size array ≡ word k → leb size (length array) ≡ true → Spells array size (word code)

@@ -68,9 +68,9 @@ module _ (like : ℕ → ℕ → Bool) where
 
   -- All pairs.
   module _ (n i : ℕ) where
-    pub apart_false : i < n → (p : Bool) → p ≡ alone like n i → not p ≡ true → false ≡ apart like n
+    pub apart_false : i < n → (p : Bool) → p ≡ alone like n i → p ≡ false → false ≡ apart like n
     unfolding apart
-    apart_false below p is e = every_false n (λ i. alone like n i) i below (sym is ∙ not-true _ e)
+    apart_false below p is e = every_false n (λ i. alone like n i) i below (sym is ∙ e)
 
     pub apart_true : n ≤ i → ((k : ℕ) → k < i → alone like n k ≡ true) → true ≡ apart like n
     unfolding apart

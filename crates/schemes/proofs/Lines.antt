@@ -1,11 +1,10 @@
 -- The lines of a file from a place on.
 use Prim.Native.Nat.{ℕ, zero, suc, ◌+◌, ◌-◌, ◌≤◌, ◌<◌}
 use native.Mathlib.Omega.{arith}
-use mathlib.Core.Bool.{Bool, true, false, not}
+use mathlib.Core.Bool.{Bool, true, false}
 use mathlib.Core.List.{List, [], ◌∷◌}
 use mathlib.Core.Path.{◌≡◌, refl, sym, ap, ◌∙◌}
 use lib.ListN.{length, get_or, take, drop, drop_of_length-le}
-use borrow.Author.Tests.{not-true, not-false}
 use Rattle.scheme.proofs.Every.{every_true, every_false}
 use Rattle.model.specs.Line.{field, lines_of}
 use Rattle.model.specs.SchemeFile.{is_scheme_line}
@@ -82,13 +81,13 @@ unfoldable pub FormedAt : List ℕ → ℕ → Type 0
 FormedAt file k = is_scheme_line (line_at file k) ≡ true
 
 module _ (file : List ℕ) (n k : ℕ) where
-  pub formed_here : (s : List ℕ) (p : Bool) → s ≡ line_at file k → p ≡ is_scheme_line s → not p ≡ false → FormedAt file k
+  pub formed_here : (s : List ℕ) (p : Bool) → s ≡ line_at file k → p ≡ is_scheme_line s → p ≡ true → FormedAt file k
   unfolding FormedAt
-  formed_here s p at is e = rw (sym at) (sym is ∙ not-false _ e)
+  formed_here s p at is e = rw (sym at) (sym is ∙ e)
 
-  pub formed_false : k < n → (s : List ℕ) (p : Bool) → s ≡ line_at file k → p ≡ is_scheme_line s → not p ≡ true → false ≡ well_formed file n
+  pub formed_false : k < n → (s : List ℕ) (p : Bool) → s ≡ line_at file k → p ≡ is_scheme_line s → p ≡ false → false ≡ well_formed file n
   unfolding well_formed
-  formed_false below s p at is e = every_false n (λ k. is_scheme_line (line_at file k)) k below (rw (sym at) (sym is ∙ not-true _ e))
+  formed_false below s p at is e = every_false n (λ k. is_scheme_line (line_at file k)) k below (rw (sym at) (sym is ∙ e))
 
   pub formed_true : n ≤ k → ((i : ℕ) → i < k → FormedAt file i) → true ≡ well_formed file n
   unfolding well_formed FormedAt

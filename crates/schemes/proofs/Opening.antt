@@ -1,13 +1,13 @@
 -- The ends of the reader: a refused file gives the six, and an accepted one its own table.
 use Prim.Native.Nat.{ℕ, ◌+◌, ◌≤◌, ◌<◌}
 use native.Mathlib.Omega.{arith}
-use mathlib.Core.Bool.{Bool, true, false, not}
+use mathlib.Core.Bool.{Bool, true, false}
 use mathlib.Core.List.{List, [], map}
 use mathlib.Core.Path.{◌≡◌, refl, sym, ap, ap₂, subst, ◌∙◌}
 use lib.Dec.{eqb}
 use lib.ListN.{length, take, length-map, get_or-map}
 use lib.Seq.{ext_get_or, get_or-take, length-take-le, take_all}
-use borrow.Author.Tests.{eq-eqb, ne_eqb, not-true, not-false}
+use borrow.Author.Tests.{eq-eqb, ne_eqb}
 use Rattle.scheme.specs.Schemes.{SchemeTable, Sound}
 use Rattle.scheme.specs.Rule.{Ruled}
 use Rattle.model.specs.Line.{fields, lines_of}
@@ -34,13 +34,13 @@ refused_six file r number some refusal six =
     record { refusal = six.refusal ∙ sym refusal; table = rw no six.table; kept = six.kept }
 
 module _ (file : List ℕ) (p : Bool) (is : p ≡ well_written (lines_of file)) where
-  pub opens_unwritten : not p ≡ true → (r : Opened) → GivesSix 25 r → Reads file r
+  pub opens_unwritten : p ≡ false → (r : Opened) → GivesSix 25 r → Reads file r
   unfolding scheme_refusal first_failing
-  opens_unwritten e r six = let f : well_written (lines_of file) ≡ false = sym is ∙ not-true _ e in refused_six file r 25 (λ e. omega arith) (rw f refl) six
+  opens_unwritten e r six = let f : well_written (lines_of file) ≡ false = sym is ∙ e in refused_six file r 25 (λ e. omega arith) (rw f refl) six
 
-  module _ (e : not p ≡ false) (n : ℕ) (count : n ≡ length (lines_of file)) where
+  module _ (e : p ≡ true) (n : ℕ) (count : n ≡ length (lines_of file)) where
     written : well_written (lines_of file) ≡ true
-    written = sym is ∙ not-false _ e
+    written = sym is ∙ e
 
     pub opens_formed : Formed file n
     opens_formed = written_formed file n count written

@@ -1,12 +1,12 @@
 -- From what the loops found to the definition of a well-written file.
 use Prim.Native.Nat.{ℕ, suc, ◌+◌, ◌-◌, ◌≤◌, ◌<◌}
 use native.Mathlib.Omega.{arith}
-use mathlib.Core.Bool.{Bool, true, false, not, ◌&&◌, beq, and-false, and-true}
+use mathlib.Core.Bool.{Bool, true, false, ◌&&◌, beq, and-false, and-true}
 use mathlib.Core.List.{List, [], map}
 use mathlib.Core.Path.{◌≡◌, refl, sym, ap, ◌∙◌}
 use lib.Dec.{eqb, leb}
 use lib.ListN.{length, get_or, length-map, get_or-map}
-use borrow.Author.Tests.{ne_eqb, le-leb, lt-leb, leb-true, lt-ltb, not-true, not-false}
+use borrow.Author.Tests.{ne_eqb, le-leb, lt-leb, leb-true, lt-ltb}
 use Rattle.scheme.specs.Lists.{implies, every}
 use Rattle.scheme.specs.Schemes.{supports, alike, bits_differ, fitting}
 use Rattle.scheme.proofs.Every.{and_left, and_right, every_same, every_element}
@@ -80,25 +80,25 @@ module _ (file : List ℕ) (n : ℕ) (count : n ≡ length (lines_of file)) wher
   unfolding well_written
   unwritten_many h = let e : 8 < length (lines_of file) = omega arith in simp (lt-leb (length (lines_of file)) 8 e, and-false)
 
-  pub unwritten_form : (p : Bool) → p ≡ well_formed file n → not p ≡ true → false ≡ well_written (lines_of file)
+  pub unwritten_form : (p : Bool) → p ≡ well_formed file n → p ≡ false → false ≡ well_written (lines_of file)
   unfolding well_written
-  unwritten_form p is e = let f : all_of is_scheme_line (lines_of file) ≡ false = sym formed_same ∙ sym is ∙ not-true _ e in simp (f, and-false)
+  unwritten_form p is e = let f : all_of is_scheme_line (lines_of file) ≡ false = sym formed_same ∙ sym is ∙ e in simp (f, and-false)
 
-  pub unwritten_bits : (bits : List Bits) → Stored file n bits → (p : Bool) → p ≡ apart (alike_at bits) n → not p ≡ true → false ≡ well_written (lines_of file)
+  pub unwritten_bits : (bits : List Bits) → Stored file n bits → (p : Bool) → p ≡ apart (alike_at bits) n → p ≡ false → false ≡ well_written (lines_of file)
   unfolding well_written
-  unwritten_bits bits stored p is e = let f : bits_differ (table_of (lines_of file)) ≡ false = sym (bits_same bits stored) ∙ sym is ∙ not-true _ e in simp (f, and-false)
+  unwritten_bits bits stored p is e = let f : bits_differ (table_of (lines_of file)) ≡ false = sym (bits_same bits stored) ∙ sym is ∙ e in simp (f, and-false)
 
-  pub lines_formed : 1 ≤ n → n ≤ 8 → (p : Bool) → p ≡ well_formed file n → not p ≡ false → Formed file n
-  lines_formed some few p is e = record { counted = count; some = some; few = few; formed = sym is ∙ not-false _ e }
+  pub lines_formed : 1 ≤ n → n ≤ 8 → (p : Bool) → p ≡ well_formed file n → p ≡ true → Formed file n
+  lines_formed some few p is e = record { counted = count; some = some; few = few; formed = sym is ∙ e }
 
-  pub written_names : Formed file n → (bits : List Bits) → Stored file n bits → (p : Bool) → p ≡ apart (alike_at bits) n → not p ≡ false → (q : Bool) → q ≡ apart (same_name file) n → q ≡ well_written (lines_of file)
+  pub written_names : Formed file n → (bits : List Bits) → Stored file n bits → (p : Bool) → p ≡ apart (alike_at bits) n → p ≡ true → (q : Bool) → q ≡ apart (same_name file) n → q ≡ well_written (lines_of file)
   unfolding well_written
   written_names formed bits stored p is_p e_p q is_q =
       let a : 1 ≤ length (lines_of file) = omega (arith, formed.some) in
       let b : length (lines_of file) ≤ 8 = omega (arith, formed.few) in
       let f : all_of is_scheme_line (lines_of file) ≡ true = sym formed_same ∙ formed.formed in
       let g : names_differ (table_of (lines_of file)) ≡ q = sym names_same ∙ sym is_q in
-      let h : bits_differ (table_of (lines_of file)) ≡ true = sym (bits_same bits stored) ∙ sym is_p ∙ not-false _ e_p in
+      let h : bits_differ (table_of (lines_of file)) ≡ true = sym (bits_same bits stored) ∙ sym is_p ∙ e_p in
       simp (le-leb 1 (length (lines_of file)) a, le-leb (length (lines_of file)) 8 b, f, g, h, and-true)
 
   -- The lines of a well-written file.

@@ -3,10 +3,12 @@
 
 ghost use Rattle.session.specs.Going.{Going};
 
-use libc::{STDIN_FILENO, STDOUT_FILENO};
 use script::Layer;
 use streams::Outcome;
 use table::Table;
+
+// The most bytes that one read takes.
+const CHUNK: usize = 4096;
 
 // A conversation: the table, the front of a line of which more may come, and whether it goes on.
 #[derive(Clone, Copy)]
@@ -17,7 +19,7 @@ struct Talk {
     open: bool,
 }
 
-fn main() {
+fn main(rt: HostRuntime) {
     let mut talk = Talk {
         table: Table::fresh(),
         line: [0u8; script::LINE],
@@ -27,7 +29,7 @@ fn main() {
     // A proved loop has to end, and nothing says that the input does.
     let mut turns = u64::MAX;
     while turns > 0 {
-        talk = listen(talk);
+        talk = listen(&rt, talk);
         if !talk.open {
             return;
         }
@@ -36,24 +38,24 @@ fn main() {
 }
 
 // Reads what is there, and answers the lines that it ends.
-fn listen(talk: Talk) -> Talk
+fn listen(rt: &HostRuntime, talk: Talk) -> Talk
     requires { Going talk }
     ensures { Going result }
 {
-    let mut chunk = io::buffer();
-    match streams::read(STDIN_FILENO, &mut chunk) {
-        Outcome::Bytes(length) => hear(talk, &chunk[..length]),
-        Outcome::End => finish(talk),
-        Outcome::Failed => {
+    let mut chunk = [0u8; CHUNK];
+    match streams::read(&mut rt.stdin(), rt, &mut chunk) {
+        Outcome::Bytes(length) => hear(rt, talk, &chunk[..length]),
+        Outcome::End => finish(rt, talk),
+        Outcome::Failed(error) => {
             // The line that was begun may not be whole, so it has no answer.
-            os::fail(b"session: standard input");
+            streams::fail(rt, "session: standard input", error);
             closed(talk)
         }
     }
 }
 
 // Answers each line that a part of the input ends, and keeps the front of the last one.
-fn hear(talk: Talk, part: &[u8]) -> Talk
+fn hear(rt: &HostRuntime, talk: Talk, part: &[u8]) -> Talk
     requires { Going talk }
     ensures { Going result }
 {
@@ -65,7 +67,7 @@ fn hear(talk: Talk, part: &[u8]) -> Talk
         if to == part.len() {
             return now;
         }
-        now = reply(now);
+        now = reply(rt, now);
         if !now.open {
             return now;
         }
@@ -91,7 +93,7 @@ fn with_part(talk: Talk, part: &[u8]) -> Talk
 }
 
 // Answers the line that is kept, and begins the next one.
-fn reply(talk: Talk) -> Talk
+fn reply(rt: &HostRuntime, talk: Talk) -> Talk
     requires { Going talk }
     ensures { Going result }
 {
@@ -100,10 +102,7 @@ fn reply(talk: Talk) -> Talk
     let mut buffer = [0u8; script::ANSWER];
     let turn = script::answer(Layer::ByValue, talk.table, &line[..count], &mut buffer);
     let size = turn.size;
-    let open = streams::write(STDOUT_FILENO, &buffer[..size]);
-    if !open {
-        os::fail(b"session: standard output");
-    }
+    let open = written(rt, &buffer[..size]);
     let table = turn.table;
     Talk {
         table,
@@ -113,13 +112,24 @@ fn reply(talk: Talk) -> Talk
     }
 }
 
+// Writes an answer, and returns whether that went well.
+fn written(rt: &HostRuntime, answer: &[u8]) -> bool {
+    match streams::write(&mut rt.stdout(), rt, answer) {
+        Ok(()) => true,
+        Err(error) => {
+            streams::fail(rt, "session: standard output", error);
+            false
+        }
+    }
+}
+
 // Answers a last line without a line feed, if it is not empty.
-fn finish(talk: Talk) -> Talk
+fn finish(rt: &HostRuntime, talk: Talk) -> Talk
     requires { Going talk }
     ensures { Going result }
 {
     if talk.count > 0 {
-        return closed(reply(talk));
+        return closed(reply(rt, talk));
     }
     closed(talk)
 }

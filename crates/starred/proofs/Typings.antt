@@ -116,7 +116,7 @@ module _ (R : Rules) (m : Machine) where
 
       rows_plain : (known : List (Qualified R.Q)) (rows : List TermRow) → ((i : ℕ) → Plain (get_or known i plain_int)) → (i : ℕ) → Plain (get_or (rows_of known rows) i plain_int)
       rows_plain known [] h = h
-      rows_plain known (row ∷ rows) h = rows_plain _ rows (last_plain known _ h (row_plain _ h row.term))
+      rows_plain known (row ∷ rows) h = rows_plain (known ++ (row_of (λ i. get_or known i plain_int) row.term ∷ [])) rows (last_plain known _ h (row_plain _ h row.term))
 
   -- One qualifier for all variables, one for all literals, and one type for all type rows.
   abbrev pub uniform : R.Q → R.Q → Ty R.Q → Assignment R.Q

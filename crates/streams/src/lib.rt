@@ -2,118 +2,140 @@
 // once, and one that would have to wait, on a stream that does not wait, after a short pause.
 #![tactic(auto)]
 
-ghost use Rattle.std.specs.Prelude.{◌≤◌, length};
+ghost use Rattle.std.specs.Prelude.{◌≤◌, length, IfOk};
 ghost use Rattle.streams.specs.Reads.{ReadInto, FilledFrom};
 
-use libc::types::timespec;
+use std::io;
+use std::io::{Error, ErrorKind, Read, Write};
+use std::rt::Clock;
+use std::thread;
+use std::time::Duration;
 
 // What one read came to.
 #[derive(Clone, Copy)]
 pub enum Outcome {
     Bytes(usize),
     End,
-    Failed,
+    Failed(Error),
 }
 
 // What reading up to the end of the input came to.
 #[derive(Clone, Copy)]
 pub enum Whole {
     Bytes(usize),
-    Failed,
+    Failed(Error),
 }
 
 // A proved loop has to end, and nothing says that a stream becomes ready. So calls are counted down, from a number that no run uses up.
 const CALLS: u64 = u64::MAX;
 
 // One read: how many bytes it put at the start of the buffer, at least one. An empty buffer is never the end: it gets none, and nothing is read.
-pub fn read(fd: i32, buffer: &mut [u8]) -> Outcome
+pub fn read<R: Read, C: Clock>(stream: &mut R, clock: &C, buffer: &mut [u8]) -> Outcome
     ensures { ReadInto buffer.new result }
 {
     if buffer.len() == 0 {
         return Outcome::Bytes(0);
     }
+    let mut failure = Error::from(ErrorKind::Interrupted);
     let mut calls = CALLS;
     while calls > 0 {
-        let got = libc::read(fd, buffer);
-        let count = io::count(got, buffer);
-        if count > 0 {
-            return Outcome::Bytes(count);
-        }
-        if got == 0 {
-            return Outcome::End;
-        }
-        if !again(os::errno()) {
-            return Outcome::Failed;
+        match stream.read(buffer) {
+            Ok(count) => {
+                if count > 0 {
+                    return Outcome::Bytes(count);
+                }
+                return Outcome::End;
+            }
+            Err(error) => {
+                if !again(clock, error) {
+                    return Outcome::Failed(error);
+                }
+                failure = error;
+            }
         }
         calls -= 1;
     }
-    Outcome::Failed
+    Outcome::Failed(failure)
 }
 
 // Reads until the buffer is full or the input ends: how many bytes stand at its start. A failure is one even after bytes came.
-pub fn read_whole(fd: i32, buffer: &mut [u8]) -> Whole
+pub fn read_whole<R: Read, C: Clock>(stream: &mut R, clock: &C, buffer: &mut [u8]) -> Whole
     ensures { FilledFrom buffer.new result }
 {
     let mut done = 0;
     while done < buffer.len() {
-        match read(fd, &mut buffer[done..]) {
+        match read(stream, clock, &mut buffer[done..]) {
             Outcome::Bytes(count) => done += count,
             Outcome::End => return Whole::Bytes(done),
-            Outcome::Failed => return Whole::Failed,
+            Outcome::Failed(error) => return Whole::Failed(error),
         }
     }
     Whole::Bytes(done)
 }
 
-// Writes all of the bytes, and returns whether that went well. Where it did not, some of them may have been written.
-pub fn write(fd: i32, bytes: &[u8]) -> bool {
+// Writes all of the bytes, or says why that did not go well. Then some of them may have been written.
+pub fn write<W: Write, C: Clock>(stream: &mut W, clock: &C, bytes: &[u8]) -> io::Result<()> {
     let mut done = 0;
     while done < bytes.len() {
-        let taken = write_some(fd, &bytes[done..]);
+        let taken = write_some(stream, clock, &bytes[done..])?;
         if taken == 0 {
-            return false;
+            return Err(Error::from(ErrorKind::WriteZero));
         }
         done += taken;
     }
-    true
+    Ok(())
 }
 
-// Writes some of the bytes and returns how many, 0 where the write failed.
-fn write_some(fd: i32, bytes: &[u8]) -> usize
-    ensures { result ≤ length bytes.now }
+// Writes some of the bytes and returns how many, or why the write failed.
+fn write_some<W: Write, C: Clock>(stream: &mut W, clock: &C, bytes: &[u8]) -> io::Result<usize>
+    ensures { IfOk result (λ taken. taken ≤ length bytes.now) }
 {
+    let mut failure = Error::from(ErrorKind::Interrupted);
     let mut calls = CALLS;
     while calls > 0 {
-        let taken = libc::write(fd, bytes);
-        if taken >= 0 {
-            return io::count(taken, bytes);
-        }
-        if !again(os::errno()) {
-            return 0;
+        match stream.write(bytes) {
+            Ok(taken) => return Ok(taken),
+            Err(error) => {
+                if !again(clock, error) {
+                    return Err(error);
+                }
+                failure = error;
+            }
         }
         calls -= 1;
     }
-    0
+    Err(failure)
 }
 
 // Whether a call that failed with this error is to be made again. One that would have to wait has its pause here.
-fn again(error: i32) -> bool {
-    if error == libc::EAGAIN {
-        pause();
-        return true;
+fn again<C: Clock>(clock: &C, error: Error) -> bool {
+    match error.kind() {
+        ErrorKind::WouldBlock => {
+            pause(clock);
+            true
+        }
+        ErrorKind::Interrupted => true,
+        _ => false,
     }
-    error == libc::EINTR
 }
 
 // Waits for a millisecond, or less where a signal ends the wait.
-fn pause() {
-    let asked = timespec {
-        tv_sec: 0,
-        tv_nsec: 1000000,
+fn pause<C: Clock>(clock: &C) {
+    thread::sleep(clock, Duration::from_millis(1));
+}
+
+// Writes a line to standard error: what failed, as the caller names it, a colon and the system's words for the error.
+pub fn fail<R: Eprint + AllocGlobal>(rt: &R, what: &str, error: Error) {
+    let _ = told(rt, what, error);
+}
+
+// The error's text ends in its number, which the line leaves out.
+fn told<R: Eprint + AllocGlobal>(rt: &R, what: &str, error: Error) -> io::Result<()> {
+    let Ok(text) = format!(in rt.alloc(); "{error}") else {
+        return eprintln!(rt; "{what}: {error}");
     };
-    let mut left = timespec {
-        tv_sec: 0,
-        tv_nsec: 0,
-    };
-    libc::nanosleep(&asked, &mut left);
+    match text.split_once(" (os error ") {
+        Some((words, _)) => eprintln!(rt; "{what}: {words}"),
+        None => eprintln!(rt; "{what}: {text}"),
+    }
 }

@@ -2,10 +2,10 @@
 use Prim.Native.Nat.{ℕ, ◌≤◌, min}
 use native.Mathlib.Omega.{arith}
 use mathlib.Core.List.{List}
-use mathlib.Core.Path.{◌≡◌, sym, ◌∙◌}
+use mathlib.Core.Path.{◌≡◌}
 use denote.Laws.{Is}
 use denote.Struct.Laws as Struct
-use lib.ListN.{length, take, length-take, length-map}
+use lib.ListN.{length, take, length-take}
 use Rattle.table.specs.Lists.{lists}
 use Rattle.table.specs.declared.Table.{Table}
 use Rattle.table.specs.contracts.Table as TableType
@@ -17,13 +17,13 @@ Owned t = Is TableType.the_row t (Struct.vals TableType.the_type TableLaws.the_l
 
 module _ (t : Table) (owned : Owned t) where
   pub types_whole : length t.types ≡ 64
-  types_whole = sym (length-map t.types _) ∙ (Struct.owed TableType.the_type TableLaws.the_laws t _ owned).0.1.0.1
+  types_whole = (Struct.owed TableType.the_type TableLaws.the_laws t _ owned).0.1.0.1
 
   pub params_whole : length t.params ≡ 64
-  params_whole = sym (length-map t.params _) ∙ (Struct.owed TableType.the_type TableLaws.the_laws t _ owned).1.0.1.0.1
+  params_whole = (Struct.owed TableType.the_type TableLaws.the_laws t _ owned).1.0.1.0.1
 
   pub terms_whole : length t.terms ≡ 256
-  terms_whole = sym (length-map t.terms _) ∙ (Struct.owed TableType.the_type TableLaws.the_laws t _ owned).1.1.0.1.0.1
+  terms_whole = (Struct.owed TableType.the_type TableLaws.the_laws t _ owned).1.1.0.1.0.1
 
 -- A count past the array's end says all of it.
 pub counted : {A : Type 0} (l : List A) (count limit n : ℕ) → length l ≡ limit → n ≡ min count limit → (n ≡ length (take count l)) × (n ≤ limit)

@@ -3,6 +3,7 @@
 
 use model::{PARAMS, TERMS, VARIABLES};
 use report::Codes;
+use std::io;
 
 // A byte that no report has: the buffers are filled with it.
 const FILL: u8 = b'#';
@@ -11,12 +12,13 @@ const FILL: u8 = b'#';
 const NAMES: [u8; 21] = *b"FHE,OP,DET,MH,AH,RAND";
 
 // The bytes of a part of the buffer go to standard output.
-fn print(buffer: &[u8], from: usize, to: usize) {
+fn print(rt: &HostRuntime, buffer: &[u8], from: usize, to: usize) -> io::Result<()> {
     if from <= to {
         if to <= buffer.len() {
-            io::write_all(1, &buffer[from..to]);
+            return rt.write_all(&buffer[from..to]);
         }
     }
+    Ok(())
 }
 
 // How many bytes from `from` on are `byte`.
@@ -35,17 +37,14 @@ fn count(buffer: &[u8], byte: u8, from: usize) -> u64 {
 }
 
 // Prints the report's length, its number of lines, and how many bytes beyond it are still as the buffer was filled.
-fn print_summary(buffer: &[u8], size: usize) {
-    io::print_decimal(1, size as u64);
-    io::write_all(1, b" bytes, ");
-    io::print_decimal(1, count(buffer, b'\n', 0));
-    io::write_all(1, b" lines, ");
-    io::print_decimal(1, count(buffer, FILL, size));
-    io::write_all(1, b" bytes unchanged\n");
+fn print_summary(rt: &HostRuntime, buffer: &[u8], size: usize) -> io::Result<()> {
+    let lines = count(buffer, b'\n', 0);
+    let unchanged = count(buffer, FILL, size);
+    println!(rt; "{size} bytes, {lines} lines, {unchanged} bytes unchanged")
 }
 
 // Program A: one variable (9 lists none), one parameter and four rows, in AH but for the last, which is PLAIN and an ARROW.
-fn program_a() {
+fn program_a(rt: &HostRuntime) -> io::Result<()> {
     let mut buffer = [FILL; 6400];
     let mut codes = Codes {
         variables: [9; VARIABLES],
@@ -58,12 +57,12 @@ fn program_a() {
     codes.rowwords[3] = 0;
     codes.rowshapes[3] = 1;
     let size = report::write(&mut buffer, &NAMES, codes, 1, 4);
-    print(&buffer, 0, size);
-    print_summary(&buffer, size);
+    print(rt, &buffer, 0, size)?;
+    print_summary(rt, &buffer, size)
 }
 
 // All 64 variables, 64 parameters and 256 rows, with the longest words: PLAIN and ARROW.
-fn longest() {
+fn longest(rt: &HostRuntime) -> io::Result<()> {
     let mut buffer = [FILL; 6400];
     let codes = Codes {
         variables: [0; VARIABLES],
@@ -73,14 +72,15 @@ fn longest() {
         rowshapes: [1; TERMS],
     };
     let size = report::write(&mut buffer, &NAMES, codes, PARAMS, TERMS);
-    print_summary(&buffer, size);
-    print(&buffer, 0, 20);
+    print_summary(rt, &buffer, size)?;
+    print(rt, &buffer, 0, 20)?;
     if 18 <= size {
-        print(&buffer, size - 18, size);
+        print(rt, &buffer, size - 18, size)?;
     }
+    Ok(())
 }
 
-fn main() {
-    program_a();
-    longest();
+fn main(rt: HostRuntime) -> io::Result<()> {
+    program_a(&rt)?;
+    longest(&rt)
 }

@@ -2,24 +2,26 @@
 // term rows the table holds after the call.
 #![tactic(auto)]
 
-use libc::STDOUT_FILENO;
+use std::io;
 use table::{Answered, Table};
 
-fn main() {
-    let table = refused_types(Table::fresh());
-    let table = refused_rows(entered_rows(refused_names(full_of_types(table))));
-    emptied(added_again(redeclared(table)));
+fn main(rt: HostRuntime) -> io::Result<()> {
+    let table = refused_types(&rt, Table::fresh())?;
+    let table = refused_names(&rt, full_of_types(table))?;
+    let table = refused_rows(&rt, entered_rows(&rt, table)?)?;
+    emptied(&rt, added_again(&rt, redeclared(&rt, table)?)?)?;
+    Ok(())
 }
 
 // Prints what a call returned, and hands on the table that it left.
-fn shown(answered: Answered) -> Table {
+fn shown(rt: &HostRuntime, answered: Answered) -> io::Result<Table> {
     let table = answered.table;
-    io::write_all(STDOUT_FILENO, &two_digits(answered.number as usize));
-    io::write_all(STDOUT_FILENO, &two_digits(table.type_rows()));
-    io::write_all(STDOUT_FILENO, &two_digits(table.parameters()));
-    io::write_all(STDOUT_FILENO, &two_digits(table.term_rows()));
-    io::write_all(STDOUT_FILENO, b"\n");
-    table
+    rt.write_all(&two_digits(answered.number as usize))?;
+    rt.write_all(&two_digits(table.type_rows()))?;
+    rt.write_all(&two_digits(table.parameters()))?;
+    rt.write_all(&two_digits(table.term_rows()))?;
+    rt.write_all(b"\n")?;
+    Ok(table)
 }
 
 // The last two digits of a number, after a space.
@@ -28,9 +30,9 @@ fn two_digits(n: usize) -> [u8; 3] {
 }
 
 // 1: none of the forms; 2: not the next number.
-fn refused_types(table: Table) -> Table {
-    let table = shown(table.add(b"T,0,WORD"));
-    shown(table.add(b"T,1,INT"))
+fn refused_types(rt: &HostRuntime, table: Table) -> io::Result<Table> {
+    let table = shown(rt, table.add(b"T,0,WORD"))?;
+    shown(rt, table.add(b"T,1,INT"))
 }
 
 fn full_of_types(table: Table) -> Table {
@@ -56,42 +58,42 @@ fn with_type(table: Table, i: usize) -> Table {
 }
 
 // 3: the list is full; 4: type row not declared; 5: parameter not declared; 6: child not below own number.
-fn refused_names(table: Table) -> Table {
-    let table = shown(table.add(b"T,64,INT"));
-    let table = shown(table.add(b"P,0,AH,64"));
-    let table = shown(table.add(b"E,0,VAR,0"));
-    let table = shown(table.add(b"P,0,AH,63"));
-    shown(table.add(b"E,0,LAM,0,0"))
+fn refused_names(rt: &HostRuntime, table: Table) -> io::Result<Table> {
+    let table = shown(rt, table.add(b"T,64,INT"))?;
+    let table = shown(rt, table.add(b"P,0,AH,64"))?;
+    let table = shown(rt, table.add(b"E,0,VAR,0"))?;
+    let table = shown(rt, table.add(b"P,0,AH,63"))?;
+    shown(rt, table.add(b"E,0,LAM,0,0"))
 }
 
-fn entered_rows(table: Table) -> Table {
-    let table = shown(table.add(b"E,0,VAR,0"));
-    shown(table.add(b"E,1,LAM,0,0"))
+fn entered_rows(rt: &HostRuntime, table: Table) -> io::Result<Table> {
+    let table = shown(rt, table.add(b"E,0,VAR,0"))?;
+    shown(rt, table.add(b"E,1,LAM,0,0"))
 }
 
 // 7: child already used, or one row named as both; 8: parameter already bound.
-fn refused_rows(table: Table) -> Table {
-    let table = shown(table.add(b"E,2,LAM,0,0"));
-    let table = shown(table.add(b"E,2,APP,1,1"));
-    shown(table.add(b"E,2,LAM,0,1"))
+fn refused_rows(rt: &HostRuntime, table: Table) -> io::Result<Table> {
+    let table = shown(rt, table.add(b"E,2,LAM,0,0"))?;
+    let table = shown(rt, table.add(b"E,2,APP,1,1"))?;
+    shown(rt, table.add(b"E,2,LAM,0,1"))
 }
 
 // 5: parameter not declared; 12: code above 70; and a change.
-fn redeclared(table: Table) -> Table {
-    let table = shown(table.redeclare(1, 71));
-    let table = shown(table.redeclare(0, 71));
-    shown(table.redeclare(0, 70))
+fn redeclared(rt: &HostRuntime, table: Table) -> io::Result<Table> {
+    let table = shown(rt, table.redeclare(1, 71))?;
+    let table = shown(rt, table.redeclare(0, 71))?;
+    shown(rt, table.redeclare(0, 70))
 }
 
 // The LAM is taken back, and added again: its child is unused and its parameter unbound.
-fn added_again(table: Table) -> Table {
-    let table = shown(table.take_back());
-    shown(table.add(b"E,1,LAM,0,0"))
+fn added_again(rt: &HostRuntime, table: Table) -> io::Result<Table> {
+    let table = shown(rt, table.take_back())?;
+    shown(rt, table.add(b"E,1,LAM,0,0"))
 }
 
 // 9: no term row to take back.
-fn emptied(table: Table) -> Table {
-    let table = shown(table.take_back());
-    let table = shown(table.take_back());
-    shown(table.take_back())
+fn emptied(rt: &HostRuntime, table: Table) -> io::Result<Table> {
+    let table = shown(rt, table.take_back())?;
+    let table = shown(rt, table.take_back())?;
+    shown(rt, table.take_back())
 }

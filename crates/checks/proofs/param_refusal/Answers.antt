@@ -1,5 +1,4 @@
 -- Each way returns the number of the first check that fails, or 0.
-use borrow.Author.Rules.{rules}
 use Rattle.checks.proofs.Refusals.{param_misplaced, param_accepted, type_undeclared}
 use Rattle.checks.proofs.param_refusal.Goals as goal
 

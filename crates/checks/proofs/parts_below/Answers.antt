@@ -1,6 +1,5 @@
 -- Each way returns the test of the one or two rows that the form names.
 use mathlib.Core.Path.{ap}
-use borrow.Author.Rules.{rules}
 use Rattle.model.specs.Machine.{parts}
 use Rattle.checks.proofs.Tests.{below_second, first_not_below}
 use Rattle.checks.proofs.parts_below.Goals as goal

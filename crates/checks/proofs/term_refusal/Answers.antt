@@ -1,5 +1,4 @@
 -- Each way returns the number of the first check that fails, or 0.
-use borrow.Author.Rules.{rules}
 use Rattle.checks.proofs.Refusals.{term_misplaced, refused_5, refused_6, refused_7, refused_8, term_accepted}
 use Rattle.checks.proofs.term_refusal.Goals as goal
 

@@ -1,5 +1,4 @@
 -- Each way returns the number of the first check that fails, or 0.
-use borrow.Author.Rules.{rules}
 use Rattle.checks.proofs.Refusals.{type_misplaced, type_accepted, part_not_below}
 use Rattle.checks.proofs.type_refusal.Goals as goal
 

@@ -1,9 +1,6 @@
 -- The invariant: the members before d are at or below c.
 use Prim.Native.Nat.{ℕ, ◌<◌, ◌≤◌, ◌-◌}
-use native.Mathlib.Omega.{arith}
-use borrow.Author.Count.{below_none, below_more}
-use borrow.Author.Tests.{not-true, not-false}
-use Rattle.derive.proofs.Searching.{BelowAt, not_member, is_below, above_all_true, above_all_false}
+use Rattle.derive.proofs.Searching.{BelowAt}
 use Rattle.derive.proofs.above_all.Given as goal
 
 abbrev pub invariant-loop-d : goal.invariant-loop-d

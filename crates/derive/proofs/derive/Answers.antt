@@ -2,8 +2,6 @@
 use Prim.Native.Nat.{◌+◌, ◌≤◌}
 use native.Mathlib.Omega.{arith}
 use mathlib.Core.Path.{refl}
-use borrow.Author.Rules.{rules}
-use borrow.Author.Tests.{not-true, not-false}
 use Rattle.derive.proofs.Searching.{best_most}
 use Rattle.derive.proofs.Deriving.{no_top, no_meets, no_highest, derived_all, meets_answer, highest_answer}
 use Rattle.derive.proofs.derive.Goals as goal
@@ -42,7 +40,7 @@ returns-then-not-find_meets c = λ T holds.
     c.greatest-top.ensures
     _
     _
-    (meets_answer c.find_meets.ensures (not-true _ c.if-not-find_meets.true))
+    (meets_answer c.find_meets.ensures c.if-not-find_meets.true)
     c.without-then-not-find_meets.ensures
 
 pub returns-then-not-find_highest : goal.returns-then-not-find_highest
@@ -61,10 +59,10 @@ returns-then-not-find_highest c = λ T holds.
     c.greatest-top.ensures
     c.if-top-words.false
     _
-    (meets_answer c.find_meets.ensures (not-false _ c.if-not-find_meets.false))
+    (meets_answer c.find_meets.ensures c.if-not-find_meets.false)
     _
     _
-    (highest_answer c.find_highest.ensures (not-true _ c.if-not-find_highest.true))
+    (highest_answer c.find_highest.ensures c.if-not-find_highest.true)
     c.without-then-not-find_highest.ensures
 
 pub overflow_cast-result : goal.overflow_cast-result
@@ -86,9 +84,9 @@ returns c = λ T holds.
     c.greatest-top.ensures
     c.if-top-words.false
     _
-    (meets_answer c.find_meets.ensures (not-false _ c.if-not-find_meets.false))
+    (meets_answer c.find_meets.ensures c.if-not-find_meets.false)
     _
-    (highest_answer c.find_highest.ensures (not-false _ c.if-not-find_highest.false))
+    (highest_answer c.find_highest.ensures c.if-not-find_highest.false)
     _
     refl
     refl

@@ -1,9 +1,9 @@
 -- The invariant: the first o places hold their highest.
-use Prim.Native.Nat.{◌≤◌, ◌-◌}
+use Prim.Native.Nat.{◌≤◌}
 use native.Mathlib.Omega.{arith}
 use mathlib.Core.Path.{refl}
 use Rattle.scheme.proofs.Filling.{filled_none}
-use Rattle.derive.proofs.Filling.{HighestTo, highest_more, highest_found, highest_missing}
+use Rattle.derive.proofs.Filling.{highest_more, highest_found, highest_missing}
 use Rattle.derive.proofs.Searching.{best_most}
 use Rattle.derive.proofs.find_highest.Goals as goal
 

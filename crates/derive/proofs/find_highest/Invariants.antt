@@ -1,10 +1,6 @@
 -- The invariant: the first o places hold their highest.
 use Prim.Native.Nat.{◌≤◌, ◌-◌}
-use native.Mathlib.Omega.{arith}
-use mathlib.Core.Path.{refl}
-use Rattle.scheme.proofs.Filling.{filled_none}
-use Rattle.derive.proofs.Filling.{HighestTo, highest_more, highest_found, highest_missing}
-use Rattle.derive.proofs.Searching.{best_most}
+use Rattle.derive.proofs.Filling.{HighestTo}
 use Rattle.derive.proofs.find_highest.Given as goal
 
 abbrev pub invariant-loop-o : goal.invariant-loop-o

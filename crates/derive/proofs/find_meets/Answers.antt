@@ -1,9 +1,9 @@
 -- The invariant: the first i places hold their meets.
-use Prim.Native.Nat.{◌≤◌, ◌-◌}
+use Prim.Native.Nat.{◌≤◌}
 use native.Mathlib.Omega.{arith}
 use mathlib.Core.Path.{refl}
 use Rattle.scheme.proofs.Filling.{filled_none}
-use Rattle.derive.proofs.Filling.{MeetsTo, meets_more, meets_skip_row, meets_skip_place, meets_found, meets_missing}
+use Rattle.derive.proofs.Filling.{meets_more, meets_skip_row, meets_skip_place, meets_found, meets_missing}
 use Rattle.derive.proofs.Searching.{best_most}
 use Rattle.derive.proofs.find_meets.Goals as goal
 

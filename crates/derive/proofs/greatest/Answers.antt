@@ -1,9 +1,8 @@
 -- The invariant: no member before c is the greatest.
-use Prim.Native.Nat.{ℕ, ◌<◌, ◌≤◌, ◌-◌}
 use native.Mathlib.Omega.{arith}
 use mathlib.Core.Path.{sym, ◌∙◌}
 use borrow.Author.Count.{below_none, below_more}
-use Rattle.derive.proofs.Searching.{NotBest, member_no, above_no, best_here, best_none}
+use Rattle.derive.proofs.Searching.{member_no, above_no, best_here, best_none}
 use Rattle.derive.proofs.greatest.Goals as goal
 
 pub loop-c-init : goal.loop-c-init

@@ -1,9 +1,6 @@
 -- The invariant: no member before c is the greatest.
 use Prim.Native.Nat.{ℕ, ◌<◌, ◌≤◌, ◌-◌}
-use native.Mathlib.Omega.{arith}
-use mathlib.Core.Path.{sym, ◌∙◌}
-use borrow.Author.Count.{below_none, below_more}
-use Rattle.derive.proofs.Searching.{NotBest, member_no, above_no, best_here, best_none}
+use Rattle.derive.proofs.Searching.{NotBest}
 use Rattle.derive.proofs.greatest.Given as goal
 
 abbrev pub invariant-loop-c : goal.invariant-loop-c

@@ -1,8 +1,5 @@
 -- The invariant: the first i places are filled in.
 use Prim.Native.Nat.{◌≤◌, ◌-◌}
-use native.Mathlib.Omega.{arith}
-use mathlib.Core.Path.{refl}
-use Rattle.scheme.proofs.Filling.{filled_none, filled_more, filled_all}
 use Rattle.derive.specs.Orders.{Ordered}
 use Rattle.derive.proofs.order_of.Given as goal
 

@@ -1,8 +1,5 @@
 -- The invariant: the members before c are filled in.
 use Prim.Native.Nat.{◌≤◌, ◌-◌}
-use native.Mathlib.Omega.{arith}
-use mathlib.Core.Path.{refl}
-use Rattle.scheme.proofs.Filling.{filled_none, filled_more, filled_all}
 use Rattle.derive.specs.Orders.{supports_at, Members}
 use Rattle.derive.proofs.supporters.Given as goal
 

@@ -1,5 +1,4 @@
 -- PLAIN supports all, a scheme what its digits say, and no scheme has a place past them.
-use borrow.Author.Rules.{rules}
 use Rattle.derive.proofs.Filling.{supports_plain, supports_digit, supports_none}
 use Rattle.derive.proofs.supports.Goals as goal
 

@@ -7,7 +7,7 @@ use Rattle.evaluator.proofs.Running.{Continues, none_celled, begins_continues, u
 use Rattle.evaluator.proofs.run.Goals as goal
 
 pub loop-terms-init : goal.loop-terms-init
-loop-terms-init c = begins_continues c.args.t1 c.args.words.now c.args.budget (frames_of c.args.kind.now c.args.tag.now c.args.value.now c.args.place.now) c.args.start none_celled c.requires.fact_2 c.requires.fact_1.1
+loop-terms-init c = begins_continues c.args.terms c.args.words.now c.args.budget (frames_of c.args.kind.now c.args.tag.now c.args.value.now c.args.place.now) c.args.start none_celled c.requires.fact_2 c.requires.fact_1.1
 
 pub looked_at-row-requires : goal.looked_at-row-requires
 looked_at-row-requires c = c.loop-terms.invariant.low
@@ -22,16 +22,20 @@ pub bounds-words-row : goal.bounds-words-row
 bounds-words-row c = c.looked_at-row.ensures.in_array
 
 pub advance-turn-requires : goal.advance-turn-requires
-advance-turn-requires c = ((c.requires.fact_1.0, c.loop-terms.invariant.low, (not_over c.loop-terms.p (sym c.is_over.ensures ∙ not-true _ c.loop-terms-test.true))), ((c.loop-terms.invariant.celled, c.loop-terms.invariant.framed), underway c.args.t1 c.args.words.now c.args.budget (frames_of c.args.kind.now c.args.tag.now c.args.value.now c.args.place.now) c.args.start c.loop-terms.invariant c.requires.fact_3))
+advance-turn-requires c = record {
+  fact_1 = (c.requires.fact_1.0, c.loop-terms.invariant.low, not_over c.loop-terms.p (sym c.is_over.ensures ∙ c.loop-terms-test.true));
+  fact_2 = (c.loop-terms.invariant.celled, c.loop-terms.invariant.framed);
+  fact_3 = underway c.args.terms c.args.words.now c.args.budget (frames_of c.args.kind.now c.args.tag.now c.args.value.now c.args.place.now) c.args.start c.loop-terms.invariant c.requires.fact_3;
+}
 
 pub loop-terms-smaller : goal.loop-terms-smaller
-loop-terms-smaller c = (continues_on c.args.t1 c.args.words.now c.args.budget (frames_of c.args.kind.now c.args.tag.now c.args.value.now c.args.place.now) c.args.start c.loop-terms.invariant (not_over c.loop-terms.p (sym c.is_over.ensures ∙ not-true _ c.loop-terms-test.true)) c.looked_at-row.ensures c.advance-turn.ensures.0 c.requires.fact_3 c.in-On.is c.advance-turn.ensures.1).1
+loop-terms-smaller c = (continues_on c.args.terms c.args.words.now c.args.budget (frames_of c.args.kind.now c.args.tag.now c.args.value.now c.args.place.now) c.args.start c.loop-terms.invariant (not_over c.loop-terms.p (sym c.is_over.ensures ∙ c.loop-terms-test.true)) c.looked_at-row.ensures c.advance-turn.ensures.advanced c.requires.fact_3 c.in-On.is c.advance-turn.ensures.sized).1
 
 pub loop-terms-preserved : goal.loop-terms-preserved
-loop-terms-preserved c = (continues_on c.args.t1 c.args.words.now c.args.budget (frames_of c.args.kind.now c.args.tag.now c.args.value.now c.args.place.now) c.args.start c.loop-terms.invariant (not_over c.loop-terms.p (sym c.is_over.ensures ∙ not-true _ c.loop-terms-test.true)) c.looked_at-row.ensures c.advance-turn.ensures.0 c.requires.fact_3 c.in-On.is c.advance-turn.ensures.1).0
+loop-terms-preserved c = (continues_on c.args.terms c.args.words.now c.args.budget (frames_of c.args.kind.now c.args.tag.now c.args.value.now c.args.place.now) c.args.start c.loop-terms.invariant (not_over c.loop-terms.p (sym c.is_over.ensures ∙ c.loop-terms-test.true)) c.looked_at-row.ensures c.advance-turn.ensures.advanced c.requires.fact_3 c.in-On.is c.advance-turn.ensures.sized).0
 
 pub returns-in-Stop : goal.returns-in-Stop
-returns-in-Stop c = continues_stop c.args.t1 c.args.words.now c.args.budget (frames_of c.args.kind.now c.args.tag.now c.args.value.now c.args.place.now) c.args.start c.loop-terms.invariant (not_over c.loop-terms.p (sym c.is_over.ensures ∙ not-true _ c.loop-terms-test.true)) c.looked_at-row.ensures c.advance-turn.ensures.0 c.in-Stop.is c.refused.ensures
+returns-in-Stop c = continues_stop c.args.terms c.args.words.now c.args.budget (frames_of c.args.kind.now c.args.tag.now c.args.value.now c.args.place.now) c.args.start c.loop-terms.invariant (not_over c.loop-terms.p (sym c.is_over.ensures ∙ c.loop-terms-test.true)) c.looked_at-row.ensures c.advance-turn.ensures.advanced c.in-Stop.is c.refused.ensures
 
 pub returns : goal.returns
-returns c = continues_over c.args.t1 c.args.words.now c.args.budget (frames_of c.args.kind.now c.args.tag.now c.args.value.now c.args.place.now) c.args.start c.loop-terms.invariant (sym c.is_over.ensures ∙ not-false _ c.loop-terms-test.false) c.ended.ensures
+returns c = continues_over c.args.terms c.args.words.now c.args.budget (frames_of c.args.kind.now c.args.tag.now c.args.value.now c.args.place.now) c.args.start c.loop-terms.invariant (sym c.is_over.ensures ∙ c.loop-terms-test.false) c.ended.ensures

@@ -1,8 +1,6 @@
 -- `forest::find`: the invariant is that the present node is reached from the first; the node falls with each turn.
 use Prim.Native.Nat.{◌≤◌}
-use native.Mathlib.Omega.{arith}
-use Rattle.forest.specs.Forest.{Reach, here, further, Found}
-use Rattle.forest.proofs.Links.{two_up}
+use Rattle.forest.specs.Forest.{Reach}
 use Rattle.forest.proofs.find.Given as goal
 
 abbrev pub invariant-loop-node : goal.invariant-loop-node

@@ -9,7 +9,7 @@ use Rattle.leading.proofs.Underway.{Underway, begins, past_last, at-end, stands,
 use Rattle.leading.proofs.lead.Given as goal
 
 abbrev pub invariant-loop-j : goal.invariant-loop-j
-invariant-loop-j l = Underway l.initial.tag l.count l.initial.value l.numbers (frames_of l.kind l.tag l.value l.place) l.row l.j
+invariant-loop-j l = Underway l.terms l.count l.codes l.numbers (frames_of l.kind l.tag l.value l.place) l.row l.j
 
 abbrev pub decreases-loop-j : goal.decreases-loop-j
 decreases-loop-j l = length l.numbers - l.j

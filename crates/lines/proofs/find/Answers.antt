@@ -1,9 +1,6 @@
 -- The first such byte from the present place on is the first one from the start on.
-use Prim.Native.Nat.{◌+◌, ◌-◌}
-use mathlib.Core.Path.{◌≡◌, refl}
+use mathlib.Core.Path.{refl}
 use borrow.Author.Rules.{rules}
-use lib.ListN.{length, drop}
-use Rattle.model.specs.Lists.{length_before}
 use Rattle.lines.proofs.Lines.{finds}
 use Rattle.lines.proofs.find.Goals as goal
 

@@ -1,8 +1,6 @@
 -- The reader has, at each turn, been fed the bytes before the present one.
-use Prim.Native.Nat.{◌-◌}
-use lib.ListN.{length}
 use borrow.Author.Rules.{rules}
-use Rattle.numbers.proofs.Passes.{Passed, passes}
+use Rattle.numbers.proofs.Passes.{passes}
 use Rattle.numbers.proofs.number_in.Goals as goal
 
 pub loop-i-init : goal.loop-i-init

@@ -1,8 +1,7 @@
 -- The reader has, at each turn, been fed the bytes before the present one.
 use Prim.Native.Nat.{◌-◌}
 use lib.ListN.{length}
-use borrow.Author.Rules.{rules}
-use Rattle.numbers.proofs.Passes.{Passed, passes}
+use Rattle.numbers.proofs.Passes.{Passed}
 use Rattle.numbers.proofs.number_in.Given as goal
 
 abbrev pub invariant-loop-i : goal.invariant-loop-i

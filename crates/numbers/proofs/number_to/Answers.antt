@@ -1,8 +1,6 @@
 -- The same from a place on; the next such byte from the present one on is the next from that place on.
-use Prim.Native.Nat.{◌-◌}
-use lib.ListN.{length}
 use borrow.Author.Rules.{rules}
-use Rattle.numbers.proofs.Passes.{Sought, seeks}
+use Rattle.numbers.proofs.Passes.{seeks}
 use Rattle.numbers.proofs.number_to.Goals as goal
 
 pub loop-i-init : goal.loop-i-init

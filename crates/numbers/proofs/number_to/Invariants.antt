@@ -1,8 +1,7 @@
 -- The same from a place on; the next such byte from the present one on is the next from that place on.
 use Prim.Native.Nat.{◌-◌}
 use lib.ListN.{length}
-use borrow.Author.Rules.{rules}
-use Rattle.numbers.proofs.Passes.{Sought, seeks}
+use Rattle.numbers.proofs.Passes.{Sought}
 use Rattle.numbers.proofs.number_to.Given as goal
 
 abbrev pub invariant-loop-i : goal.invariant-loop-i

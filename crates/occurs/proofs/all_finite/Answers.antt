@@ -1,9 +1,5 @@
 -- `occurs::all_finite`: the invariant is what Between says of the nodes passed.
-use Prim.Native.Nat.{◌-◌}
 use native.Mathlib.Omega.{arith}
-use borrow.Author.Tests.{not-true, not-false}
-use Rattle.graph.specs.Types.{types_of}
-use Rattle.occurs.specs.Marks.{Between}
 use Rattle.occurs.proofs.Marks.{between_fresh, between_more}
 use Rattle.occurs.proofs.Search.{searched, searched_none}
 use Rattle.occurs.proofs.all_finite.Goals as goal
@@ -13,14 +9,14 @@ loop-node-init c = between_fresh
 
 pub finite_next-requires : goal.finite_next-requires
 finite_next-requires c = let given = c.requires in
-    record { type_classes_1 = given.0; type_classes_2 = given.1.0; type_classes_3 = omega arith; between = c.loop-node.invariant }
+    record { type_classes_1 = given.fact_1; type_classes_2 = given.fact_2; type_classes_3 = omega arith; between = c.loop-node.invariant }
 
 pub returns-then-not-finite_next : goal.returns-then-not-finite_next
-returns-then-not-finite_next c = searched_none (c.finite_next.ensures.none (not-true _ c.if-not-finite_next.true))
+returns-then-not-finite_next c = searched_none (c.finite_next.ensures.none c.if-not-finite_next.true)
 
 pub loop-node-preserved : goal.loop-node-preserved
 loop-node-preserved c = let answer = c.finite_next.ensures in
-    let finite = not-false _ c.if-not-finite_next.false in
+    let finite = c.if-not-finite_next.false in
     between_more c.loop-node.invariant (answer.kept finite) (answer.finite finite)
 
 pub returns : goal.returns

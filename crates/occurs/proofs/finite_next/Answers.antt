@@ -1,6 +1,5 @@
 -- `occurs::finite_next`: by the kind, and by whether both parts are below the node.
 use native.Mathlib.Omega.{arith}
-use borrow.Author.Rules.{rules}
 use Rattle.occurs.proofs.Readings.{descriptor}
 use Rattle.occurs.proofs.Marks.{between_way}
 use Rattle.occurs.proofs.Search.{next_no_arrow, next_arrow}
@@ -8,25 +7,25 @@ use Rattle.occurs.proofs.finite_next.Goals as goal
 
 pub returns-then-k-lt-FIRST_ARROW : goal.returns-then-k-lt-FIRST_ARROW
 returns-then-k-lt-FIRST_ARROW c = let given = c.requires in
-    next_no_arrow given.0 given.1.1.0 given.1.1.1 c.if-k-lt-FIRST_ARROW.true
+    next_no_arrow given.type_classes_1 given.type_classes_3 given.between c.if-k-lt-FIRST_ARROW.true
 
 pub overflow_cast-d : goal.overflow_cast-d
 overflow_cast-d c = omega (arith, c.requires.type_classes_1.kinds c.args.node c.requires.type_classes_3)
 
 pub part-requires : goal.part-requires
 part-requires c = let given = c.requires in
-    record { fact_1 = given.1.0; fact_2 = (descriptor given.0 _ given.1.1.0, omega arith) }
+    record { fact_1 = given.type_classes_2; fact_2 = (descriptor given.type_classes_1 _ given.type_classes_3, omega arith) }
 
 pub part-requires-then-part-node : goal.part-requires-then-part-node
 part-requires-then-part-node c = let given = c.requires in
-    (given.1.0, (descriptor given.0 _ given.1.1.0, omega arith))
+    record { fact_1 = given.type_classes_2; fact_2 = (descriptor given.type_classes_1 _ given.type_classes_3, omega arith) }
 
 pub returns-then-part-node-2 : goal.returns-then-part-node-2
 returns-then-part-node-2 c = let given = c.requires in
     next_arrow
-    given.0
-    given.1.1.0
-    given.1.1.1
+    given.type_classes_1
+    given.type_classes_3
+    given.between
     c.if-k-lt-FIRST_ARROW.false
     c.part.ensures.0
     c.part-then-part-node.ensures.0
@@ -35,4 +34,4 @@ returns-then-part-node-2 c = let given = c.requires in
 
 pub finite_qualified-requires : goal.finite_qualified-requires
 finite_qualified-requires c = let given = c.requires in
-    record { type_classes = given.0; way = (given.1.0, (given.1.1.0, between_way _ given.1.1.1)) }
+    record { type_classes = (given.type_classes_1, (given.type_classes_2, given.type_classes_3)); way = between_way _ given.between }

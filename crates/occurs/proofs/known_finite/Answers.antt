@@ -1,10 +1,9 @@
 -- `occurs::known_finite`: by the kind of the root, and by its mark.
-use borrow.Author.Rules.{rules}
 use Rattle.occurs.proofs.Search.{finite_no_arrow, known_marked}
 use Rattle.occurs.proofs.known_finite.Goals as goal
 
 pub find-root-requires : goal.find-root-requires
-find-root-requires c = (c.requires.fact_1.forest, c.requires.fact_2)
+find-root-requires c = record { fact_1 = c.requires.fact_1.forest; fact_2 = c.requires.fact_2 }
 
 pub returns-then-kind-root-lt-FIRST_ARROW : goal.returns-then-kind-root-lt-FIRST_ARROW
 returns-then-kind-root-lt-FIRST_ARROW c = λ kids e sound. finite_no_arrow c.requires.fact_2 c.find-root.ensures c.if-kind-root-lt-FIRST_ARROW.true

@@ -1,12 +1,10 @@
 -- `occurs::settle`: the invariant is what Settling says of the nodes passed.
 use Prim.Native.Nat.{◌-◌}
-use native.Mathlib.Omega.{arith}
-use Rattle.layout.specs.Layout.{nodes}
-use Rattle.occurs.proofs.Settling.{Settling, settling_none, settling_more, settled}
+use Rattle.occurs.proofs.Settling.{Settling}
 use Rattle.occurs.proofs.settle.Given as goal
 
 abbrev pub invariant-loop-node : goal.invariant-loop-node
-invariant-loop-node l = Settling l.typeparent l.count l.kind l.node
+invariant-loop-node l = Settling l.typeparent l.initial.kind l.kind l.node
 
 abbrev pub decreases-loop-node : goal.decreases-loop-node
-decreases-loop-node l = l.initial.kind - l.node
+decreases-loop-node l = l.count - l.node

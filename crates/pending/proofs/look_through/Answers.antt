@@ -1,14 +1,10 @@
 -- `look_through`: the invariant says what the first j pairs came to; each turn is one of three laws, by the kind of the pair's root.
-use Prim.Native.Nat.{◌-◌}
 use native.Mathlib.Omega.{arith}
 use borrow.Author.Tests.{lt-ltb}
 use mathlib.Core.Path.{◌≡◌}
 use Rattle.layout.specs.Layout.{nodes}
-use Rattle.graph.specs.Types.{types_of}
-use Rattle.qualifiers.specs.Classes.{qualifiers_of}
 use Rattle.qualifiers.proofs.Uniting.{no_class, class_node}
-use Rattle.pending.specs.Pending.{pending_of}
-use Rattle.pending.proofs.Sweeping.{Sweeping, sweeping_none, pair_nodes, marks_from, sweeping_kept, sweeping_dropped, sweeping_plain, sweeping_apart}
+use Rattle.pending.proofs.Sweeping.{sweeping_none, pair_nodes, marks_from, sweeping_kept, sweeping_dropped, sweeping_plain, sweeping_apart}
 use Rattle.pending.proofs.look_through.Goals as goal
 
 pub loop-j-init : goal.loop-j-init
@@ -21,7 +17,7 @@ pub overflow_cast-x : goal.overflow_cast-x
 overflow_cast-x c = omega (arith, pair_nodes c.loop-j.invariant c.loop-j-test.true c.requires.fact_3)
 
 pub find-r-requires : goal.find-r-requires
-find-r-requires c = (c.requires.fact_2.forest, (pair_nodes c.loop-j.invariant c.loop-j-test.true c.requires.fact_3).1)
+find-r-requires c = record { fact_1 = c.requires.fact_2.forest; fact_2 = (pair_nodes c.loop-j.invariant c.loop-j-test.true c.requires.fact_3).1 }
 
 pub offset_bounds-kind-r : goal.offset_bounds-kind-r
 offset_bounds-kind-r c = omega (arith, c.find-r.ensures.low, pair_nodes c.loop-j.invariant c.loop-j-test.true c.requires.fact_3)
@@ -51,10 +47,10 @@ unite-requires c = let turn = c.loop-j.invariant in
     record { fact_1 = turn.swept.imposed.classes; fact_2 = ((pair_nodes turn c.loop-j-test.true c.requires.fact_3).0, omega arith) }
 
 pub returns-then-unite-eq-APART : goal.returns-then-unite-eq-APART
-returns-then-unite-eq-APART c = sweeping_apart c.loop-j.invariant c.loop-j-test.true c.find-r.ensures c.if-k-ge-FIRST_ARROW.true c.unite.ensures.0 (no_class c.if-unite-eq-APART.true)
+returns-then-unite-eq-APART c = sweeping_apart c.loop-j.invariant c.loop-j-test.true c.find-r.ensures c.if-k-ge-FIRST_ARROW.true c.unite.ensures.fact_1 (no_class c.if-unite-eq-APART.true)
 
 pub loop-j-preserved-else-unite-eq-APART : goal.loop-j-preserved-else-unite-eq-APART
-loop-j-preserved-else-unite-eq-APART c = sweeping_plain c.loop-j.invariant c.loop-j-test.true c.find-r.ensures c.if-k-ge-FIRST_ARROW.true c.unite.ensures.0 (lt-ltb _ nodes (class_node c.unite.ensures.1 c.if-unite-eq-APART.false))
+loop-j-preserved-else-unite-eq-APART c = sweeping_plain c.loop-j.invariant c.loop-j-test.true c.find-r.ensures c.if-k-ge-FIRST_ARROW.true c.unite.ensures.fact_1 (lt-ltb _ nodes (class_node c.unite.ensures.fact_2 c.if-unite-eq-APART.false))
 
 pub loop-j-preserved : goal.loop-j-preserved
 loop-j-preserved c = sweeping_dropped c.loop-j.invariant c.loop-j-test.true c.find-r.ensures c.if-k-eq-UNKNOWN.false (omega arith)

@@ -1,11 +1,5 @@
 -- The invariant: where the words hold what the greatest reading gives them, all nodes before x do.
-use Prim.Native.Nat.{ℕ, ◌≤◌, ◌-◌}
 use native.Mathlib.Omega.{arith}
-use mathlib.Core.List.{List}
-use mathlib.Core.Path.{◌≡◌}
-use Rattle.layout.specs.Layout.{nodes}
-use Rattle.scheme.specs.Rule.{words_at}
-use Rattle.qualifiers.specs.Classes.{Classes, Within, Settled, qualifiers_of}
 use Rattle.qualifiers.proofs.Readings.{settled_node, settled_rest, settled_all}
 use Rattle.qualifiers.proofs.settle.Goals as goal
 
@@ -38,7 +32,7 @@ loop-x-preserved c = (
 pub returns : goal.returns
 returns c = let inv = c.loop-x.invariant in
     let pre = c.requires in
-    let classes = pre.0 in
-    let within = pre.1.0 in
+    let classes = pre.fact_1 in
+    let within = pre.fact_2 in
     let settled = inv.2 _ classes within (c.settle_words.ensures _ classes within) in
-    settled_all classes.lattice (settled_rest classes within settled inv.0 inv.1 (λ x h. pre.1.1.1.own x (omega arith)))
+    settled_all classes.lattice (settled_rest classes within settled inv.0 inv.1 (λ x h. pre.fact_3.1.own x (omega arith)))

@@ -1,10 +1,7 @@
 -- The invariant: the words before c hold themselves, which is what the greatest reading gives them.
-use Prim.Native.Nat.{ℕ, ◌≤◌, ◌-◌}
 use native.Mathlib.Omega.{arith}
-use mathlib.Core.List.{List}
 use mathlib.Core.Path.{◌≡◌}
 use Rattle.scheme.specs.Rule.{words_at}
-use Rattle.qualifiers.specs.Classes.{Classes, Within, Settled, qualifiers_of}
 use Rattle.qualifiers.proofs.Readings.{settled_none, settled_constant}
 use Rattle.qualifiers.proofs.settle_words.Goals as goal
 
@@ -24,5 +21,6 @@ pub loop-c-preserved : goal.loop-c-preserved
 loop-c-preserved c = (omega arith, λ p k within. settled_constant k within (c.loop-c.invariant.1 p k within) (omega (arith, c.words-words.ensures)))
 
 pub returns : goal.returns
-returns c = let end : c.loop-c.c ≡ words_at c.args.rule.now = omega (arith, c.words-words.ensures, c.loop-c.invariant.0) in
+returns c p k within =
+    let end : c.loop-c.c ≡ words_at c.args.rule.now = omega (arith, c.words-words.ensures, c.loop-c.invariant.0) in
     rw end at (c.loop-c.invariant.1 p k within)

@@ -1,13 +1,9 @@
 -- The invariant: the pairs before i were made one.
-use Prim.Native.Nat.{◌≤◌, ◌-◌}
 use native.Mathlib.Omega.{arith}
 use borrow.Author.Tests.{lt-ltb}
-use mathlib.Core.Bool.{true}
 use mathlib.Core.Path.{◌≡◌}
-use Rattle.forest.specs.Pairs.{notes_of}
 use Rattle.layout.specs.Layout.{nodes}
 use Rattle.qualifiers.proofs.Uniting.{no_class, class_node, all_none, all_more, all_clash}
-use Rattle.qualifiers.specs.Classes.{UnitedAll, qualifiers_of}
 use Rattle.qualifiers.proofs.unite_all.Goals as goal
 
 pub loop-i-init : goal.loop-i-init
@@ -26,10 +22,10 @@ unite-requires c = let turn = c.loop-i in
     record { fact_1 = turn.invariant.1.classes; fact_2 = (pairs.left_node turn.i less, pairs.right_node turn.i less) }
 
 pub returns-then-unite-eq-APART : goal.returns-then-unite-eq-APART
-returns-then-unite-eq-APART c = all_clash c.loop-i.invariant.1 c.unite.ensures.0 c.loop-i-test.true (no_class c.if-unite-eq-APART.true)
+returns-then-unite-eq-APART c = all_clash c.loop-i.invariant.1 c.unite.ensures.fact_1 c.loop-i-test.true (no_class c.if-unite-eq-APART.true)
 
 pub loop-i-preserved : goal.loop-i-preserved
-loop-i-preserved c = (omega arith, all_more c.loop-i.invariant.1 c.unite.ensures.0 (lt-ltb _ nodes (class_node c.unite.ensures.1 c.if-unite-eq-APART.false)))
+loop-i-preserved c = (omega arith, all_more c.loop-i.invariant.1 c.unite.ensures.fact_1 (lt-ltb _ nodes (class_node c.unite.ensures.fact_2 c.if-unite-eq-APART.false)))
 
 pub returns : goal.returns
 returns c = let end : c.loop-i.i ≡ c.args.n = omega arith in

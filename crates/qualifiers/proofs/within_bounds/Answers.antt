@@ -1,12 +1,10 @@
 -- The invariant: the constants before c are at or below their bounds.
-use Prim.Native.Nat.{ℕ, ◌<◌, ◌≤◌, ◌-◌}
+use Prim.Native.Nat.{ℕ}
 use native.Mathlib.Omega.{arith}
 use borrow.Author.Count.{below_none, below_more}
-use borrow.Author.Tests.{not-true, not-false}
 use mathlib.Core.Bool.{true}
 use mathlib.Core.Path.{◌≡◌, sym, subst, ◌∙◌}
 use Rattle.scheme.specs.Rule.{under}
-use Rattle.qualifiers.specs.Classes.{bound_at}
 use Rattle.qualifiers.proofs.Bounds.{tested_all, tested_one}
 use Rattle.qualifiers.proofs.within_bounds.Goals as goal
 
@@ -39,10 +37,10 @@ pub is_under-requires : goal.is_under-requires
 is_under-requires c = record { fact_1 = c.requires.0; fact_2 = (omega (arith, c.loop-c-test.true, c.words-words.ensures), c.requires.2 _ (omega (arith, c.words-words.ensures, c.requires.0.few))) }
 
 pub returns-then-not-is_under : goal.returns-then-not-is_under
-returns-then-not-is_under c = tested_one c.requires.0 _ (omega (arith, c.loop-c-test.true, c.words-words.ensures)) (sym c.is_under.ensures ∙ not-true _ c.if-not-is_under.true)
+returns-then-not-is_under c = tested_one c.requires.0 _ (omega (arith, c.loop-c-test.true, c.words-words.ensures)) (sym c.is_under.ensures ∙ c.if-not-is_under.true)
 
 pub loop-c-preserved : goal.loop-c-preserved
-loop-c-preserved c = (omega arith, below_more _ _ c.loop-c.invariant.1 (sym c.is_under.ensures ∙ not-false _ c.if-not-is_under.false))
+loop-c-preserved c = (omega arith, below_more _ _ c.loop-c.invariant.1 (sym c.is_under.ensures ∙ c.if-not-is_under.false))
 
 pub returns : goal.returns
 returns c = tested_all (λ k code. c.loop-c.invariant.1 k (omega (arith, c.loop-c-test.false, c.words-words.ensures)))

@@ -1,14 +1,7 @@
 -- The names before name k are whole, and the rest of the text has what the others lack.
-use Prim.Native.Nat.{◌-◌, ◌<◌}
 use native.Mathlib.Omega.{arith}
-use lib.ListN.{length, drop}
-use Rattle.model.specs.Line.{fields}
-use Rattle.report.proofs.Tables.{size_at, Making, making_none, walked, walk_comma, walk_room, walk_letter}
+use Rattle.report.proofs.Tables.{making_none, walked, walk_comma, walk_room, walk_letter}
 use Rattle.report.proofs.word_table.Goals as goal
-
--- There is room for the letter.
-room : (c : tie.After-shared-slice-known2 invariant-loop decreases-loop) → size_at c.before.before.before.before.loop.words c.before.before.before.before.loop.k < 5
-room c = walk_room _ c.before.before.before.before.before.requires _ _ _ c.before.before.before.before.loop.invariant c.before.before.before.loop-test.true c.before.if1.false
 
 pub loop-i-init : goal.loop-i-init
 loop-i-init c = making_none _ c.requires
@@ -17,16 +10,16 @@ pub loop-i-preserved-then-names-i-eq44 : goal.loop-i-preserved-then-names-i-eq44
 loop-i-preserved-then-names-i-eq44 c = walk_comma _ c.requires _ _ _ c.loop-i.invariant c.loop-i-test.true c.if-names-i-eq44.true
 
 pub overflow_cast-words : goal.overflow_cast-words
-overflow_cast-words c = omega (arith, room c)
+overflow_cast-words c = omega (arith, walk_room _ c.requires _ _ _ c.loop-i.invariant c.loop-i-test.true c.if-names-i-eq44.false)
 
 pub overflow_add-words : goal.overflow_add-words
-overflow_add-words c = omega (arith, room c)
+overflow_add-words c = omega (arith, walk_room _ c.requires _ _ _ c.loop-i.invariant c.loop-i-test.true c.if-names-i-eq44.false)
 
 pub bounds-words-k : goal.bounds-words-k
-bounds-words-k c = omega (arith, room c)
+bounds-words-k c = omega (arith, walk_room _ c.requires _ _ _ c.loop-i.invariant c.loop-i-test.true c.if-names-i-eq44.false)
 
 pub overflow_add-words-else-names-i-eq44 : goal.overflow_add-words-else-names-i-eq44
-overflow_add-words-else-names-i-eq44 c = omega (arith, room c)
+overflow_add-words-else-names-i-eq44 c = omega (arith, walk_room _ c.requires _ _ _ c.loop-i.invariant c.loop-i-test.true c.if-names-i-eq44.false)
 
 pub loop-i-preserved : goal.loop-i-preserved
 loop-i-preserved c = walk_letter _ c.requires _ _ _ c.loop-i.invariant c.loop-i-test.true c.if-names-i-eq44.false

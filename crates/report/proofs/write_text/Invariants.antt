@@ -1,15 +1,13 @@
 -- The loop has left to write the rest of the text.
 use Prim.Native.Nat.{◌+◌, ◌-◌, ◌≤◌}
-use native.Mathlib.Omega.{arith}
-use borrow.Author.Rules.{rules}
-use lib.ListN.{length, drop, length-set}
-use Rattle.report.proofs.Writing.{Left, left_length, text_start, text_rest, text_end}
+use lib.ListN.{length, drop}
+use Rattle.report.proofs.Writing.{Left}
 use Rattle.report.proofs.write_text.Given as goal
 
 abbrev pub invariant-loop-i : goal.invariant-loop-i
-invariant-loop-i l = (l.i ≤ length l.initial.buffer)
-    × (l.text + length l.initial.buffer ≤ length l.buffer)
-    × Left l.buffer (l.text + l.i) (drop l.i l.initial.buffer) l.at l.text l.initial.buffer
+invariant-loop-i l = (l.i ≤ length l.text)
+    × (l.at + length l.text ≤ length l.buffer)
+    × Left l.buffer (l.at + l.i) (drop l.i l.text) l.initial.buffer l.at l.text
 
 abbrev pub decreases-loop-i : goal.decreases-loop-i
-decreases-loop-i l = length l.initial.buffer - l.i
+decreases-loop-i l = length l.text - l.i

@@ -11,7 +11,7 @@ use Rattle.rows.proofs.app_row.Goals as goal
 pub bind_row-requires : goal.bind_row-requires
 bind_row-requires c = let at = at_root c.requires.fact_1 (omega (arith, c.requires.fact_4.0, c.requires.fact_4.1)) (rw c.row_type.ensures at c.root-function.ensures) in
     let ready = unknown_ready _ _ _ _ _ _ _ _ _ _ _ _ _ c.requires.fact_4 c.requires.fact_5 at c.if-k-eq-UNKNOWN.true in
-    (at.classes, (c.requires.fact_2, (c.requires.fact_3, ready)))
+    record { fact_1 = at.classes; fact_2 = c.requires.fact_2; fact_3 = c.requires.fact_3; fact_4 = ready.0; fact_5 = ready.1 }
 
 pub returns-then-k-eq-UNKNOWN : goal.returns-then-k-eq-UNKNOWN
 returns-then-k-eq-UNKNOWN c = let at = at_root c.requires.fact_1 (omega (arith, c.requires.fact_4.0, c.requires.fact_4.1)) (rw c.row_type.ensures at c.root-function.ensures) in
@@ -29,7 +29,7 @@ pub call_row-requires : goal.call_row-requires
 call_row-requires c = let at = at_root c.requires.fact_1 (omega (arith, c.requires.fact_4.0, c.requires.fact_4.1)) (rw c.row_type.ensures at c.root-function.ensures) in
     let two : 2 ≤ kind_at c.args.kind.now c.root-function.result = omega (arith, c.if-k-eq-UNKNOWN.false, c.if-k-eq-INT.false) in
     let ready = arrow_ready _ _ _ _ _ _ _ _ _ _ _ _ _ c.requires.fact_4 c.requires.fact_5 at two refl in
-    (at.classes, (c.requires.fact_2, (c.requires.fact_3, ready)))
+    record { fact_1 = at.classes; fact_2 = c.requires.fact_2; fact_3 = c.requires.fact_3; fact_4 = ready.0; fact_5 = ready.1 }
 
 pub returns : goal.returns
 returns c = let at = at_root c.requires.fact_1 (omega (arith, c.requires.fact_4.0, c.requires.fact_4.1)) (rw c.row_type.ensures at c.root-function.ensures) in

@@ -14,8 +14,8 @@ returns-then-function-row_type c = bare (omega (arith, c.if-crowded-function-gt0
 
 pub returns-then-unite-eq-APART : goal.returns-then-unite-eq-APART
 returns-then-unite-eq-APART c = let united = rw (c.row_qualifier-own.ensures, c.row_type-2.ensures) at c.unite.ensures in
-    own_apart _ _ (omega (arith, c.if-function-row_type.false, c.row_type.ensures)) united.0 c.if-unite-eq-APART.true
+    own_apart _ _ (omega (arith, c.if-function-row_type.false, c.row_type.ensures)) united.fact_1 c.if-unite-eq-APART.true
 
 pub returns : goal.returns
 returns c = let united = rw (c.row_qualifier-own.ensures, c.row_type-2.ensures) at c.unite.ensures in
-    own_plain _ _ (omega (arith, c.if-function-row_type.false, c.row_type.ensures)) united.0 (omega (arith, c.if-crowded-function-gt0.false)) united.1 c.if-unite-eq-APART.false
+    own_plain _ _ (omega (arith, c.if-function-row_type.false, c.row_type.ensures)) united.fact_1 (omega (arith, c.if-crowded-function-gt0.false)) united.fact_2 c.if-unite-eq-APART.false

@@ -1,12 +1,11 @@
 -- `rows::look_if`: the pairs are looked through, or as they were.
-use borrow.Author.Tests.{not-true}
 use mathlib.Core.Path.{refl}
 use Rattle.rows.specs.Applying.{swept, still}
 use borrow.Author.Rules.{rules}
 use Rattle.rows.proofs.look_if.Goals as goal
 
 pub returns-then-not-closes : goal.returns-then-not-closes
-returns-then-not-closes c = still (not-true _ c.if-not-closes.true) refl refl
+returns-then-not-closes c = still c.if-not-closes.true refl refl
 
 pub returns : goal.returns
 returns c = swept c.look_through.ensures

@@ -1,6 +1,5 @@
 -- The entry is read from its place.
 use mathlib.Core.Path.{refl}
-use borrow.Author.Rules.{rules}
 use Rattle.scheme.specs.Rule.{highest_at}
 use Rattle.scheme.proofs.highest_in.Goals as goal
 

@@ -1,6 +1,5 @@
 -- A qualifier is at or below another exactly where it is the meet of the two.
 use Rattle.scheme.proofs.Rule.{meet_is_left}
-use borrow.Author.Rules.{rules}
 use Rattle.scheme.proofs.is_under.Goals as goal
 
 pub returns : goal.returns

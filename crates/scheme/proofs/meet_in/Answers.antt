@@ -1,7 +1,6 @@
 -- The entry is read from its place.
 use mathlib.Core.Path.{refl}
 use Rattle.scheme.specs.Rule.{meet_at}
-use borrow.Author.Rules.{rules}
 use Rattle.scheme.proofs.meet_in.Goals as goal
 
 pub returns : goal.returns

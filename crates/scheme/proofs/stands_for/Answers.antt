@@ -1,6 +1,5 @@
 -- The words' test, and each arm's range, is one of the three ranges of the definition.
 use mathlib.Core.Path.{sym}
-use borrow.Author.Rules.{rules}
 use Rattle.scheme.proofs.Codes.{stands_word, stands_variable, stands_nothing}
 use Rattle.scheme.proofs.stands_for.Goals as goal
 

@@ -2,7 +2,6 @@
 use mathlib.Core.Path.{refl}
 use native.Mathlib.Omega.{arith}
 use Rattle.scheme.specs.Rule.{words_at}
-use borrow.Author.Rules.{rules}
 use Rattle.scheme.proofs.words.Goals as goal
 
 pub overflow_cast-result : goal.overflow_cast-result

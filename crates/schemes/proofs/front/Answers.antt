@@ -3,7 +3,6 @@ use native.Mathlib.Omega.{arith}
 use mathlib.Core.Path.{sym}
 use lib.ListN.{length-take}
 use lib.Seq.{take_all}
-use borrow.Author.Rules.{rules}
 use Rattle.schemes.proofs.front.Goals as goal
 
 pub returns-then-bytes-count : goal.returns-then-bytes-count

@@ -1,12 +1,8 @@
 -- `setup::describe_forms`: the descriptors of the rows below x are written, and their kinds noted.
 use mathlib.Core.Path.{◌≡◌, refl}
-use Prim.Native.Nat.{◌-◌, ◌≤◌}
+use borrow.Author.Rules.{rules}
 use native.Mathlib.Omega.{arith}
 use borrow.Author.Count.{below_none}
-use Rattle.graph.specs.Types.{Parts}
-use Rattle.model.specs.Machine.{form_in}
-use Rattle.setup.specs.Started.{form_kind}
-use Rattle.setup.specs.Passes.{FormsDescribed, FormsLeft, FirstHold}
 use Rattle.setup.proofs.Descriptors.{forms_more, forms_left_more}
 use Rattle.setup.proofs.Starting.{hold_none, hold_more, kinds_hold}
 use Rattle.setup.proofs.describe_forms.Goals as goal
@@ -19,9 +15,9 @@ describe_form-requires c = record { fact_1 = c.loop-x.invariant.1; fact_2 = (ome
 
 pub loop-x-preserved : goal.loop-x-preserved
 loop-x-preserved c = let written = c.describe_form.ensures in
-    let types = c.args.t1 in
+    let types = c.args.types in
     (omega arith, written.0.parts, forms_more types _ _ _ written.0 written.1 c.loop-x.invariant.2, forms_left_more types c.args.kids.now _ _ _ written.0 written.2 c.loop-x.invariant.3, hold_more _ _ _ _ _ (omega arith) c.form_kind.ensures c.loop-x.invariant.4)
 
 pub returns : goal.returns
 returns c = let e : c.loop-x.x ≡ c.args.count = omega arith in
-    (c.loop-x.invariant.1, rw e at c.loop-x.invariant.2, rw e at c.loop-x.invariant.3, kinds_hold c.args.t1 c.args.count _ c.WELL_FORMED.0.1.0.1 c.requires.fact_2.0 (rw e at c.loop-x.invariant.4))
+    (c.loop-x.invariant.1, rw e at c.loop-x.invariant.2, rw e at c.loop-x.invariant.3, kinds_hold c.args.types c.args.count _ (search rules) c.requires.fact_2.0 (rw e at c.loop-x.invariant.4))

@@ -1,18 +1,13 @@
 -- `setup::describe_forms`: the descriptors of the rows below x are written, and their kinds noted.
-use mathlib.Core.Path.{◌≡◌, refl}
 use Prim.Native.Nat.{◌-◌, ◌≤◌}
-use native.Mathlib.Omega.{arith}
-use borrow.Author.Count.{below_none}
 use Rattle.graph.specs.Types.{Parts}
 use Rattle.model.specs.Machine.{form_in}
 use Rattle.setup.specs.Started.{form_kind}
 use Rattle.setup.specs.Passes.{FormsDescribed, FormsLeft, FirstHold}
-use Rattle.setup.proofs.Descriptors.{forms_more, forms_left_more}
-use Rattle.setup.proofs.Starting.{hold_none, hold_more, kinds_hold}
 use Rattle.setup.proofs.describe_forms.Given as goal
 
 abbrev pub invariant-loop-x : goal.invariant-loop-x
-invariant-loop-x l = (l.x ≤ l.count) × Parts l.kids × FormsDescribed l.initial.formkinds l.x l.kids × FormsLeft l.initial.formkinds l.x l.types l.kids × FirstHold (λ n. form_kind n (form_in l.initial.formkinds n)) 64 l.x l.formkinds
+invariant-loop-x l = (l.x ≤ l.count) × Parts l.kids × FormsDescribed l.types l.x l.kids × FormsLeft l.types l.x l.initial.kids l.kids × FirstHold (λ n. form_kind n (form_in l.types n)) 64 l.x l.formkinds
 
 abbrev pub decreases-loop-x : goal.decreases-loop-x
 decreases-loop-x l = l.count - l.x

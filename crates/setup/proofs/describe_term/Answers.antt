@@ -2,7 +2,6 @@
 use native.Mathlib.Omega.{arith}
 use mathlib.Core.Path.{refl}
 use Rattle.setup.proofs.Writing.{only_none}
-use borrow.Author.Rules.{rules}
 use Rattle.setup.proofs.describe_term.Goals as goal
 
 pub bounds-qualifiers-p : goal.bounds-qualifiers-p
@@ -43,7 +42,7 @@ row_type-requires-in-App-2 c = let nodes = rw c.in-App.is at c.requires.fact_2.1
 
 pub write-requires-in-App : goal.write-requires-in-App
 write-requires-in-App c = let nodes = rw c.in-App.is at c.requires.fact_2.1 in
-    (c.requires.fact_1, omega (arith, c.requires.fact_2.0, c.row_type-in-App.ensures, c.row_qualifier-in-App.ensures, c.row_type-in-App-2.ensures, c.row_qualifier-in-App-2.ensures, c.row_type-in-App-3.ensures))
+    record { fact_1 = c.requires.fact_1; fact_2 = omega (arith, c.requires.fact_2.0, c.row_type-in-App.ensures, c.row_qualifier-in-App.ensures, c.row_type-in-App-2.ensures, c.row_qualifier-in-App-2.ensures, c.row_type-in-App-3.ensures) }
 
 pub returns-in-Lam : goal.returns-in-Lam
 returns-in-Lam c = let written = rw (c.row_type.ensures, c.row_qualifier.ensures, c.row_type-in-Lam.ensures) at c.write.ensures in

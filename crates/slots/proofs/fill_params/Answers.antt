@@ -1,10 +1,7 @@
 -- The loop has filled the slots of the first p parameters.
-use Prim.Native.Nat.{◌-◌, ◌≤◌}
 use native.Mathlib.Omega.{arith}
 use mathlib.Core.Path.{◌≡◌}
 use borrow.Author.Rules.{rules}
-use Rattle.model.specs.Machine.{param_in}
-use Rattle.slots.specs.Filling.{SlotsFilled}
 use Rattle.slots.proofs.Slots.{no_slots, more_slots}
 use Rattle.slots.proofs.fill_params.Goals as goal
 
@@ -13,7 +10,7 @@ loop-p-init c = (omega arith, no_slots _ _ _ _ _ _)
 
 pub loop-p-preserved : goal.loop-p-preserved
 loop-p-preserved c = (
-  omega (arith, head),
+  omega arith,
   more_slots _ _ _ _ _ _ c.loop-p.invariant.1 (search rules) (search rules)
       c.put.ensures c.put-in-loop-p.ensures c.shape_at.ensures,
 )

@@ -1,10 +1,7 @@
 -- The loop has filled the slots of the first i rows.
-use Prim.Native.Nat.{◌+◌, ◌-◌, ◌≤◌}
 use native.Mathlib.Omega.{arith}
 use mathlib.Core.Path.{◌≡◌}
 use borrow.Author.Rules.{rules}
-use Rattle.layout.specs.Layout.{row_type, row_qualifier}
-use Rattle.slots.specs.Filling.{SlotsFilled}
 use Rattle.slots.proofs.Slots.{no_slots, more_slots}
 use Rattle.slots.proofs.fill_rows.Goals as goal
 
@@ -14,7 +11,7 @@ loop-i-init c = (omega arith, no_slots _ _ _ _ _ _)
 pub loop-i-preserved : goal.loop-i-preserved
 loop-i-preserved c = let word = rw c.row_qualifier.ensures at c.put.ensures in
     let shape = rw c.row_type.ensures at c.shape_at.ensures in
-    (omega (arith, head), more_slots _ _ _ _ _ _ c.loop-i.invariant.1 (search rules) (search rules) word c.put-in-loop-i.ensures shape)
+    (omega arith, more_slots _ _ _ _ _ _ c.loop-i.invariant.1 (search rules) (search rules) word c.put-in-loop-i.ensures shape)
 
 pub returns : goal.returns
 returns c = let e : c.loop-i.i ≡ c.args.count = omega arith in rw e at c.loop-i.invariant.1

@@ -1,11 +1,8 @@
 -- The loop has filled the variables of the first i parameters.
-use Prim.Native.Nat.{◌-◌, ◌≤◌}
 use native.Mathlib.Omega.{arith}
 use mathlib.Core.Path.{◌≡◌}
 use lib.Dec.{eqb}
-use lib.ListN.{take}
 use borrow.Author.Rules.{rules}
-use Rattle.slots.specs.Filling.{in_params, VariablesFilled}
 use Rattle.slots.proofs.Variables.{none_filled, more_filled}
 use Rattle.slots.proofs.fill_variables_of_params.Goals as goal
 
@@ -15,7 +12,7 @@ loop-i-init c = (omega arith, none_filled _ _ _)
 pub loop-i-preserved : goal.loop-i-preserved
 loop-i-preserved c = (
   omega arith,
-  more_filled _ _ (λ code param. eqb code param.qualifier) c.args.t1 c.loop-i.i _
+  more_filled _ _ (λ code param. eqb code param.qualifier) _ c.loop-i.i _
       (search rules) c.loop-i.invariant.1 c.fill_variable.ensures,
 )
 

@@ -1,16 +1,11 @@
 -- The loop has filled the variables of the first i parameters.
 use Prim.Native.Nat.{◌-◌, ◌≤◌}
-use native.Mathlib.Omega.{arith}
-use mathlib.Core.Path.{◌≡◌}
-use lib.Dec.{eqb}
 use lib.ListN.{take}
-use borrow.Author.Rules.{rules}
 use Rattle.slots.specs.Filling.{in_params, VariablesFilled}
-use Rattle.slots.proofs.Variables.{none_filled, more_filled}
 use Rattle.slots.proofs.fill_variables_of_params.Given as goal
 
 abbrev pub invariant-loop-i : goal.invariant-loop-i
-invariant-loop-i l = (l.i ≤ l.count) × VariablesFilled l.first (in_params (take l.i l.initial.variables)) l.words l.params l.variables
+invariant-loop-i l = (l.i ≤ l.count) × VariablesFilled l.first (in_params (take l.i l.params)) l.words l.initial.variables l.variables
 
 abbrev pub decreases-loop-i : goal.decreases-loop-i
 decreases-loop-i l = l.count - l.i

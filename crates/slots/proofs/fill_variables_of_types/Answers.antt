@@ -1,10 +1,8 @@
 -- The loop has filled the variables of the first i type rows.
-use Prim.Native.Nat.{◌-◌, ◌≤◌}
 use native.Mathlib.Omega.{arith}
 use mathlib.Core.Path.{◌≡◌}
-use lib.ListN.{take}
 use borrow.Author.Rules.{rules}
-use Rattle.slots.specs.Filling.{in_form, in_types, VariablesFilled}
+use Rattle.slots.specs.Filling.{in_form}
 use Rattle.slots.proofs.Variables.{none_filled, more_filled}
 use Rattle.slots.proofs.fill_variables_of_types.Goals as goal
 
@@ -14,7 +12,7 @@ loop-i-init c = (omega arith, none_filled _ _ _)
 pub loop-i-preserved : goal.loop-i-preserved
 loop-i-preserved c = (
   omega arith,
-  more_filled _ _ (λ code row. in_form row.form code) c.args.t1 c.loop-i.i _
+  more_filled _ _ (λ code row. in_form row.form code) _ c.loop-i.i _
       (search rules) c.loop-i.invariant.1 c.fill_variables_of_form.ensures,
 )
 

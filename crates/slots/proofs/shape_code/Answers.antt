@@ -10,4 +10,4 @@ pub returns-in-1 : goal.returns-in-1
 returns-in-1 c = int_code _ c.in-1.is
 
 pub returns-in_default : goal.returns-in_default
-returns-in_default c = arrow_code _ (omega (arith, c.in_default.in_default-own.rest.0.1, c.in_default.in_default-own.rest.1))
+returns-in_default c = arrow_code _ (omega arith)

@@ -9,7 +9,7 @@ use Rattle.text.proofs.Turns.{Filling, all_left, entry_refused, type_fits, type_
 use Rattle.text.proofs.add_lines.Goals as goal
 
 pub loop-from-init : goal.loop-from-init
-loop-from-init c = all_left c.args.t1 _ _ c.WELL_FORMED.0 c.requires
+loop-from-init c = all_left c.args.table _ _ c.well_formed.0 c.requires
 
 pub slice_bounds-read-end : goal.slice_bounds-read-end
 slice_bounds-read-end c = search (turns, rules)

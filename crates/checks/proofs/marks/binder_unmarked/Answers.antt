@@ -1,6 +1,5 @@
 -- A LAM binds one parameter, and no other term binds any.
 use mathlib.Core.Path.{ap}
-use borrow.Author.Rules.{rules}
 use Rattle.model.specs.Machine.{binds}
 use Rattle.checks.proofs.Tests.{one_untaken}
 use Rattle.checks.proofs.marks.binder_unmarked.Goals as goal

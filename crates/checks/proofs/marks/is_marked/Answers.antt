@@ -1,7 +1,6 @@
 -- A number past the marks has no entry.
 use mathlib.Core.Path.{sym}
 use lib.ListN.{get_or-eq_default}
-use borrow.Author.Rules.{rules}
 use Rattle.checks.proofs.marks.is_marked.Goals as goal
 
 pub returns : goal.returns

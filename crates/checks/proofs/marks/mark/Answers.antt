@@ -1,6 +1,5 @@
 -- The term's numbers are those that its arm stores at.
 use mathlib.Core.Path.{ap}
-use borrow.Author.Rules.{rules}
 use Rattle.model.specs.Machine.{children, binds}
 use Rattle.checks.proofs.Marking.{first_within, second_within, names_stored}
 use Rattle.checks.proofs.marks.mark.Goals as goal

@@ -1,17 +1,16 @@
 -- Each kind of line has its own checks; those of a term row ask the marks in the place of the rows.
 use mathlib.Core.Path.{sym, ap, ◌∙◌}
-use borrow.Author.Rules.{rules}
 use Rattle.model.specs.Machine.{settled, entered}
 use Rattle.checks.proofs.Marking.{free_by_marks}
 use Rattle.checks.proofs.marks.refusal.Goals as goal
 
 pub returns-in-TypeLine : goal.returns-in-TypeLine
 unfolding entered settled
-returns-in-TypeLine c = λ m counts marked. c.type_refusal.ensures m counts.type-rows ∙ ap (λ line. (entered m line).number) (sym c.in-TypeLine.is)
+returns-in-TypeLine c = λ m counts marked. c.type_refusal.ensures m counts.type_rows ∙ ap (λ line. (entered m line).number) (sym c.in-TypeLine.is)
 
 pub returns-in-ParamLine : goal.returns-in-ParamLine
 unfolding entered settled
-returns-in-ParamLine c = λ m counts marked. c.param_refusal.ensures m counts.type-rows counts.parameters ∙ ap (λ line. (entered m line).number) (sym c.in-ParamLine.is)
+returns-in-ParamLine c = λ m counts marked. c.param_refusal.ensures m counts.type_rows counts.parameters ∙ ap (λ line. (entered m line).number) (sym c.in-ParamLine.is)
 
 pub returns-in-TermLine : goal.returns-in-TermLine
 unfolding entered settled

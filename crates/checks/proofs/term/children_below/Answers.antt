@@ -1,6 +1,5 @@
 -- Each way returns whether the children that the row has are below its number.
 use mathlib.Core.Path.{sym, ap, ◌∙◌}
-use borrow.Author.Rules.{rules}
 use Rattle.checks.specs.Children.{listed}
 use Rattle.checks.proofs.Tests.{below_none, below_one, below_second, first_not_below}
 use Rattle.checks.proofs.term.children_below.Goals as goal

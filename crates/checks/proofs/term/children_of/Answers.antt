@@ -1,5 +1,4 @@
 -- Each arm names the children of its term.
-use borrow.Author.Rules.{rules}
 use Rattle.checks.proofs.term.children_of.Goals as goal
 
 pub returns-in-Lam : goal.returns-in-Lam

@@ -1,6 +1,5 @@
 -- Each way returns whether the number is among the children that the row has.
 use mathlib.Core.Path.{sym, ap, ◌∙◌}
-use borrow.Author.Rules.{rules}
 use Rattle.checks.specs.Children.{listed}
 use Rattle.checks.proofs.Tests.{contains_none, contains_one, contains_first, contains_second}
 use Rattle.checks.proofs.term.has_child.Goals as goal

@@ -1,6 +1,5 @@
 -- Each thing that may be sought has its own test.
 use mathlib.Core.Path.{sym, ap, ◌∙◌}
-use borrow.Author.Rules.{rules}
 use Rattle.checks.specs.Sought.{named_by}
 use Rattle.checks.proofs.term.names.Goals as goal
 

@@ -1,6 +1,5 @@
 -- A LAM and a VAR name one parameter, and no other term names any.
 use mathlib.Core.Path.{ap}
-use borrow.Author.Rules.{rules}
 use Rattle.model.specs.Machine.{named}
 use Rattle.checks.proofs.Tests.{below_one}
 use Rattle.checks.proofs.term.parameter_declared.Goals as goal

@@ -1,9 +1,6 @@
 -- `pending::gather::add_types`: the pairs of the rows below x are added.
-use Prim.Native.Nat.{◌-◌, ◌*◌, ◌≤◌}
 use native.Mathlib.Omega.{arith}
 use mathlib.Core.Path.{◌≡◌}
-use Rattle.forest.specs.Pairs.{notes_of}
-use Rattle.pending.specs.Lines.{FormPair, Adds}
 use Rattle.pending.proofs.Gathering.{forms_none, forms_more}
 use Rattle.pending.proofs.gather.add_types.Goals as goal
 
@@ -11,7 +8,7 @@ pub loop-x-init : goal.loop-x-init
 loop-x-init c = (omega arith, forms_none)
 
 pub add_form-n-requires : goal.add_form-n-requires
-add_form-n-requires c = (c.requires.fact_1, (omega (arith, c.loop-x.invariant.1.few), omega arith))
+add_form-n-requires c = record { fact_1 = c.requires.fact_1; fact_2 = (omega (arith, c.loop-x.invariant.1.few), omega arith) }
 
 pub loop-x-preserved : goal.loop-x-preserved
 loop-x-preserved c = (omega arith, forms_more c.loop-x.invariant.1 c.add_form-n.ensures)

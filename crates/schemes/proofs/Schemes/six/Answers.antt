@@ -1,6 +1,5 @@
 -- The bytes compute to the table of the six, and the ruling is theirs.
 use mathlib.Core.Path.{refl}
-use borrow.Author.Rules.{rules}
 use Rattle.scheme.proofs.Six.{six_sound}
 use Rattle.schemes.specs.Schemes.{table_in}
 use Rattle.schemes.proofs.Schemes.six.Goals as goal

@@ -1,8 +1,6 @@
 -- The invariant: the first k lines are scheme lines.
-use Prim.Native.Nat.{ℕ, ◌-◌, ◌<◌}
-use borrow.Author.Rules.{rules}
 use borrow.Author.Count.{below_none, below_more}
-use Rattle.schemes.proofs.Lines.{FormedAt, formed_here, formed_false, formed_true}
+use Rattle.schemes.proofs.Lines.{formed_here, formed_false, formed_true}
 use Rattle.schemes.proofs.file.all_formed.Goals as goal
 
 pub loop-k-init : goal.loop-k-init

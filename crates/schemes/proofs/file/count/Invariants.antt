@@ -1,8 +1,7 @@
 -- The lines that were passed, and those of the rest, are all lines; each turn passes one.
 use Prim.Native.Nat.{◌-◌}
 use lib.ListN.{length}
-use borrow.Author.Rules.{rules}
-use Rattle.schemes.proofs.Lines.{Counted, counts}
+use Rattle.schemes.proofs.Lines.{Counted}
 use Rattle.schemes.proofs.file.count.Given as goal
 
 abbrev pub invariant-loop-from : goal.invariant-loop-from

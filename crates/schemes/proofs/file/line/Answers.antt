@@ -1,5 +1,4 @@
 -- A line stands from its start to its end.
-use borrow.Author.Rules.{rules}
 use Rattle.schemes.proofs.Lines.{line_bound, line_whole}
 use Rattle.schemes.proofs.file.line.Goals as goal
 

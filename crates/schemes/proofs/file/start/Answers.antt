@@ -1,8 +1,6 @@
 -- Line k is, at each turn, the line of the rest that as many lines lead to as are left.
-use Prim.Native.Nat.{◌-◌}
-use lib.ListN.{length}
 use borrow.Author.Rules.{rules}
-use Rattle.schemes.proofs.Lines.{LineFrom, starts}
+use Rattle.schemes.proofs.Lines.{starts}
 use Rattle.schemes.proofs.file.start.Goals as goal
 
 pub loop-from-init : goal.loop-from-init

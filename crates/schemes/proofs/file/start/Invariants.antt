@@ -1,8 +1,7 @@
 -- Line k is, at each turn, the line of the rest that as many lines lead to as are left.
 use Prim.Native.Nat.{◌-◌}
 use lib.ListN.{length}
-use borrow.Author.Rules.{rules}
-use Rattle.schemes.proofs.Lines.{LineFrom, starts}
+use Rattle.schemes.proofs.Lines.{LineFrom}
 use Rattle.schemes.proofs.file.start.Given as goal
 
 abbrev pub invariant-loop-from : goal.invariant-loop-from

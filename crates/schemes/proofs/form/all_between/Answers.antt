@@ -1,9 +1,6 @@
 -- All are between the two exactly where all of the rest are.
-use Prim.Native.Nat.{◌-◌}
-use mathlib.Core.Path.{◌≡◌, refl}
-use lib.ListN.{length, drop}
+use mathlib.Core.Path.{refl}
 use borrow.Author.Rules.{rules}
-use Rattle.schemes.specs.Lines.{all_between}
 use Rattle.schemes.proofs.Forms.{alls}
 use Rattle.schemes.proofs.form.all_between.Goals as goal
 

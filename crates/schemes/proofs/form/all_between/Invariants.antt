@@ -1,10 +1,8 @@
 -- All are between the two exactly where all of the rest are.
 use Prim.Native.Nat.{◌-◌}
-use mathlib.Core.Path.{◌≡◌, refl}
+use mathlib.Core.Path.{◌≡◌}
 use lib.ListN.{length, drop}
-use borrow.Author.Rules.{rules}
 use Rattle.schemes.specs.Lines.{all_between}
-use Rattle.schemes.proofs.Forms.{alls}
 use Rattle.schemes.proofs.form.all_between.Given as goal
 
 abbrev pub invariant-loop-i : goal.invariant-loop-i

@@ -1,9 +1,6 @@
 -- The invariant: the two agree in the first o places.
 use Prim.Native.Nat.{ℕ, ◌<◌, ◌≤◌, ◌-◌}
-use native.Mathlib.Omega.{arith}
-use borrow.Author.Rules.{rules}
-use borrow.Author.Count.{below_none, below_more}
-use Rattle.schemes.proofs.Apart.{Agree, agree_here, alike_true, alike_false}
+use Rattle.schemes.proofs.Apart.{Agree}
 use Rattle.schemes.proofs.pairs.alike.Given as goal
 
 abbrev pub invariant-loop-o : goal.invariant-loop-o

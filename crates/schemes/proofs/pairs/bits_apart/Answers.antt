@@ -1,12 +1,7 @@
 -- The invariant: each of the first i schemes differs from all others.
-use Prim.Native.Nat.{ℕ, ◌-◌, ◌<◌}
 use native.Mathlib.Omega.{arith}
-use mathlib.Core.Bool.{true}
-use mathlib.Core.Path.{◌≡◌, sym, ◌∙◌}
-use borrow.Author.Rules.{rules}
-use borrow.Author.Tests.{not-false}
+use mathlib.Core.Path.{sym, ◌∙◌}
 use borrow.Author.Count.{below_none, below_more}
-use Rattle.schemes.specs.Pairs.{alike_at, alone}
 use Rattle.schemes.proofs.Apart.{apart_false, apart_true}
 use Rattle.schemes.proofs.pairs.bits_apart.Goals as goal
 
@@ -20,7 +15,7 @@ pub returns-then-not-bits_alone : goal.returns-then-not-bits_alone
 returns-then-not-bits_alone c = apart_false _ _ _ c.loop-i-test.true _ c.bits_alone.ensures c.if-not-bits_alone.true
 
 pub loop-i-preserved : goal.loop-i-preserved
-loop-i-preserved c = below_more _ _ c.loop-i.invariant (sym c.bits_alone.ensures ∙ not-false _ c.if-not-bits_alone.false)
+loop-i-preserved c = below_more _ _ c.loop-i.invariant (sym c.bits_alone.ensures ∙ c.if-not-bits_alone.false)
 
 pub returns : goal.returns
 returns c = apart_true _ _ _ c.loop-i-test.false c.loop-i.invariant

@@ -1,9 +1,7 @@
 -- The invariant: of the first j lines only line i itself has the name.
 use Prim.Native.Nat.{ℕ, ◌-◌, ◌<◌}
-use borrow.Author.Rules.{rules}
-use borrow.Author.Count.{below_none, below_more}
 use Rattle.schemes.specs.Pairs.{same_name}
-use Rattle.schemes.proofs.Apart.{Differ, same_name_lem, apart_one, apart_not, alone_false, alone_true}
+use Rattle.schemes.proofs.Apart.{Differ}
 use Rattle.schemes.proofs.pairs.name_alone.Given as goal
 
 abbrev pub invariant-loop-j : goal.invariant-loop-j

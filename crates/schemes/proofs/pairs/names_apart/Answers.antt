@@ -1,11 +1,6 @@
 -- The invariant: each of the first i lines has a name of its own.
-use Prim.Native.Nat.{ℕ, ◌-◌, ◌<◌}
-use mathlib.Core.Bool.{true}
-use mathlib.Core.Path.{◌≡◌, sym, ◌∙◌}
-use borrow.Author.Rules.{rules}
-use borrow.Author.Tests.{not-false}
+use mathlib.Core.Path.{sym, ◌∙◌}
 use borrow.Author.Count.{below_none, below_more}
-use Rattle.schemes.specs.Pairs.{same_name, alone}
 use Rattle.schemes.proofs.Apart.{apart_false, apart_true}
 use Rattle.schemes.proofs.pairs.names_apart.Goals as goal
 
@@ -16,7 +11,7 @@ pub returns-then-not-name_alone : goal.returns-then-not-name_alone
 returns-then-not-name_alone c = apart_false _ _ _ c.loop-i-test.true _ c.name_alone.ensures c.if-not-name_alone.true
 
 pub loop-i-preserved : goal.loop-i-preserved
-loop-i-preserved c = below_more _ _ c.loop-i.invariant (sym c.name_alone.ensures ∙ not-false _ c.if-not-name_alone.false)
+loop-i-preserved c = below_more _ _ c.loop-i.invariant (sym c.name_alone.ensures ∙ c.if-not-name_alone.false)
 
 pub returns : goal.returns
 returns c = apart_true _ _ _ c.loop-i-test.false c.loop-i.invariant

@@ -1,12 +1,8 @@
 -- The invariant: each of the first i lines has a name of its own.
 use Prim.Native.Nat.{ℕ, ◌-◌, ◌<◌}
 use mathlib.Core.Bool.{true}
-use mathlib.Core.Path.{◌≡◌, sym, ◌∙◌}
-use borrow.Author.Rules.{rules}
-use borrow.Author.Tests.{not-false}
-use borrow.Author.Count.{below_none, below_more}
+use mathlib.Core.Path.{◌≡◌}
 use Rattle.schemes.specs.Pairs.{same_name, alone}
-use Rattle.schemes.proofs.Apart.{apart_false, apart_true}
 use Rattle.schemes.proofs.pairs.names_apart.Given as goal
 
 abbrev pub invariant-loop-i : goal.invariant-loop-i

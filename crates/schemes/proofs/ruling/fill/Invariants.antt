@@ -1,8 +1,5 @@
 -- The invariant: the first i bytes are filled in.
 use Prim.Native.Nat.{◌-◌}
-use mathlib.Core.Path.{refl}
-use borrow.Author.Rules.{rules}
-use Rattle.scheme.proofs.Filling.{filled_none, filled_more, filled_all}
 use Rattle.schemes.specs.Entries.{entry_at, Entered}
 use Rattle.schemes.proofs.ruling.fill.Given as goal
 

@@ -1,11 +1,7 @@
 -- The invariant: the first i bytes are filled in.
 use Prim.Native.Nat.{◌-◌}
-use mathlib.Core.Path.{refl}
-use borrow.Author.Rules.{rules}
-use Rattle.scheme.proofs.Filling.{filled_none, filled_more}
 use Rattle.schemes.specs.Entries.{Entered}
 use Rattle.schemes.specs.Entries.{six_at}
-use Rattle.schemes.proofs.Six.{six_ruled}
 use Rattle.schemes.proofs.ruling.six_rule.Given as goal
 
 abbrev pub invariant-loop-i : goal.invariant-loop-i

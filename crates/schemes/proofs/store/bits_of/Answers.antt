@@ -1,10 +1,7 @@
 -- The invariant: the digits of the first k lines are stored; a scheme line has five.
-use Prim.Native.Nat.{◌-◌, ◌≤◌}
 use native.Mathlib.Omega.{arith}
 use mathlib.Core.Path.{refl}
-use borrow.Author.Rules.{rules}
 use Rattle.scheme.proofs.Filling.{filled_none, filled_all}
-use Rattle.schemes.specs.Stored.{Stored}
 use Rattle.schemes.proofs.Storing.{formed_five, stored_more}
 use Rattle.schemes.proofs.store.bits_of.Goals as goal
 

@@ -1,8 +1,5 @@
 -- The text has the names of the first k lines; a comma and the next name fit, for a name has at most five bytes.
-use Prim.Native.Nat.{◌-◌, ◌≤◌}
 use native.Mathlib.Omega.{arith}
-use borrow.Author.Rules.{rules}
-use Rattle.schemes.specs.Stored.{NamesHeld}
 use Rattle.schemes.proofs.Names.{first_room, held_first, held_room, held_more, held_all}
 use Rattle.schemes.proofs.store.names_of.Goals as goal
 

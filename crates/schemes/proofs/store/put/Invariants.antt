@@ -1,10 +1,7 @@
 -- The first i of the bytes stand in the text, after what stood before the place.
 use Prim.Native.Nat.{◌-◌, ◌≤◌}
-use native.Mathlib.Omega.{arith}
 use lib.ListN.{length}
-use borrow.Author.Rules.{rules}
 use Rattle.schemes.specs.Stored.{Put}
-use Rattle.schemes.proofs.Names.{put_none, put_more, put_all}
 use Rattle.schemes.proofs.store.put.Given as goal
 
 abbrev pub invariant-loop-i : goal.invariant-loop-i

@@ -1,6 +1,5 @@
 -- A refusal leaves the lists; an accepted parameter is stored behind those standing, where there is room.
 use mathlib.Core.Path.{refl}
-use borrow.Author.Rules.{rules}
 use Rattle.model.specs.Machine.{entered}
 use Rattle.table.proofs.Counts.{params_whole}
 use Rattle.table.proofs.Stored.{refused, param_room, param_stored}
@@ -11,7 +10,7 @@ unfolding entered
 returns-then-number-ne0 c = (refused _ _ _ _ (c.param_refusal-number.ensures _ c.type_rows.ensures.0 c.parameters.ensures.0) c.if-number-ne0.true, refl)
 
 pub bounds-self-at : goal.bounds-self-at
-bounds-self-at c = (param_room c.args.t1 _ _ c.if-number-ne0.false _ (c.param_refusal-number.ensures _ c.type_rows.ensures.0 c.parameters.ensures.0)).1
+bounds-self-at c = (param_room c.args.self _ _ c.if-number-ne0.false _ (c.param_refusal-number.ensures _ c.type_rows.ensures.0 c.parameters.ensures.0)).1
 
 pub returns : goal.returns
-returns c = (param_stored c.args.t1 _ _ c.if-number-ne0.false _ (c.param_refusal-number.ensures _ c.type_rows.ensures.0 c.parameters.ensures.0) (params_whole c.args.t1 c.WELL_FORMED.0), refl)
+returns c = (param_stored c.args.self _ _ c.if-number-ne0.false _ (c.param_refusal-number.ensures _ c.type_rows.ensures.0 c.parameters.ensures.0) (params_whole c.args.self c.well_formed.0), refl)

@@ -1,6 +1,5 @@
 -- A refusal leaves the lists; an accepted row is stored behind those standing, where there is room.
 use mathlib.Core.Path.{refl}
-use borrow.Author.Rules.{rules}
 use Rattle.model.specs.Machine.{entered}
 use Rattle.table.proofs.Counts.{terms_whole}
 use Rattle.table.proofs.Stored.{free_by_rows, refused, term_room, term_stored}
@@ -16,13 +15,13 @@ returns-then-number-ne0 c = (
 )
 
 pub bounds-self-at : goal.bounds-self-at
-bounds-self-at c = (term_room c.args.t1 _ _ c.if-number-ne0.false _
+bounds-self-at c = (term_room c.args.self _ _ c.if-number-ne0.false _
     (c.term_refusal-number.ensures _ c.parameters.ensures.0 c.term_rows.ensures.0 (free_by_rows _ _ _ _ c.children_free.ensures c.binder_free.ensures))).1
 
 pub returns : goal.returns
 returns c = (
-  term_stored c.args.t1 _ _ c.if-number-ne0.false _
+  term_stored c.args.self _ _ c.if-number-ne0.false _
       (c.term_refusal-number.ensures _ c.parameters.ensures.0 c.term_rows.ensures.0 (free_by_rows _ _ _ _ c.children_free.ensures c.binder_free.ensures))
-      (terms_whole c.args.t1 c.WELL_FORMED.0),
+      (terms_whole c.args.self c.well_formed.0),
   refl,
 )

@@ -30,7 +30,7 @@ overflow_cast-param c = let few : Few c.front.result.now = search (front_few, ru
 
 pub returns : goal.returns
 returns c = (
-  redeclare_stored c.args.t1 _ _ _
+  redeclare_stored c.args.self _ _ _
       c.parameters.ensures.0 _
       (words_counted _ _ c.front.ensures _ c.count-words.ensures)
       c.if-parameters-p.false c.if-words-code.false,

@@ -1,8 +1,6 @@
 -- The fields that were begun and those of the rest are, at each turn, all the fields, with one counted twice.
-use Prim.Native.Nat.{◌+◌, ◌-◌, ◌≤◌}
 use borrow.Author.Rules.{rules}
-use lib.ListN.{length}
-use Rattle.tokens.proofs.Parting.{Counted, counts}
+use Rattle.tokens.proofs.Parting.{counts}
 use Rattle.tokens.proofs.fields.count.Goals as goal
 
 pub loop-i-init : goal.loop-i-init

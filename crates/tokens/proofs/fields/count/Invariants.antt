@@ -1,8 +1,7 @@
 -- The fields that were begun and those of the rest are, at each turn, all the fields, with one counted twice.
 use Prim.Native.Nat.{◌+◌, ◌-◌, ◌≤◌}
-use borrow.Author.Rules.{rules}
 use lib.ListN.{length}
-use Rattle.tokens.proofs.Parting.{Counted, counts}
+use Rattle.tokens.proofs.Parting.{Counted}
 use Rattle.tokens.proofs.fields.count.Given as goal
 
 abbrev pub invariant-loop-i : goal.invariant-loop-i

@@ -1,8 +1,5 @@
 -- Field k is, at each turn, the field of the rest that as many commas lead to as are left.
-use Prim.Native.Nat.{◌-◌}
 use borrow.Author.Rules.{rules}
-use lib.ListN.{length}
-use Rattle.tokens.specs.Part.{FieldAt}
 use Rattle.tokens.proofs.Parting.{starts}
 use Rattle.tokens.proofs.fields.start.Goals as goal
 

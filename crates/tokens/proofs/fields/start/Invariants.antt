@@ -1,9 +1,7 @@
 -- Field k is, at each turn, the field of the rest that as many commas lead to as are left.
 use Prim.Native.Nat.{◌-◌}
-use borrow.Author.Rules.{rules}
 use lib.ListN.{length}
 use Rattle.tokens.specs.Part.{FieldAt}
-use Rattle.tokens.proofs.Parting.{starts}
 use Rattle.tokens.proofs.fields.start.Given as goal
 
 abbrev pub invariant-loop-i : goal.invariant-loop-i

@@ -1,11 +1,10 @@
 -- The values of the line are, at each turn, those so far with those of the fields not yet read.
-use Prim.Native.Nat.{◌-◌, ◌≤◌}
+use Prim.Native.Nat.{◌≤◌}
 use native.Mathlib.Omega.{arith}
 use borrow.Author.Rules.{rules}
 use lib.ListN.{length}
-use Rattle.model.specs.Line.{fields}
 use Rattle.tokens.proofs.Bounds.{value_within, field_fits, code_fits}
-use Rattle.tokens.proofs.Reading.{Reading, read_first, read_end, read_short, read_missing, read_number, read_literal, read_code}
+use Rattle.tokens.proofs.Reading.{read_first, read_end, read_short, read_missing, read_number, read_literal, read_code}
 use Rattle.tokens.proofs.values.read.Goals as goal
 
 pub loop-k-init : goal.loop-k-init

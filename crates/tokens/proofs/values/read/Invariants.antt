@@ -1,11 +1,8 @@
 -- The values of the line are, at each turn, those so far with those of the fields not yet read.
-use Prim.Native.Nat.{◌-◌, ◌≤◌}
-use native.Mathlib.Omega.{arith}
-use borrow.Author.Rules.{rules}
+use Prim.Native.Nat.{◌-◌}
 use lib.ListN.{length}
 use Rattle.model.specs.Line.{fields}
-use Rattle.tokens.proofs.Bounds.{value_within, field_fits, code_fits}
-use Rattle.tokens.proofs.Reading.{Reading, read_first, read_end, read_short, read_missing, read_number, read_literal, read_code}
+use Rattle.tokens.proofs.Reading.{Reading}
 use Rattle.tokens.proofs.values.read.Given as goal
 
 abbrev pub invariant-loop-k : goal.invariant-loop-k

@@ -1,6 +1,5 @@
 -- Each arm's range is one of those of the definition.
 use native.Mathlib.Omega.{arith}
-use borrow.Author.Rules.{rules}
 use Rattle.model.proofs.Capitals.{capital_before, capital_small, capital_after}
 use Rattle.tokens.proofs.words.capital.Goals as goal
 

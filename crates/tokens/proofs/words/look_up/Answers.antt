@@ -1,8 +1,6 @@
 -- The place is, at each turn, that among the words not yet compared.
-use Prim.Native.Nat.{◌+◌, ◌-◌}
 use borrow.Author.Rules.{rules}
-use lib.ListN.{length}
-use Rattle.tokens.proofs.Spelling.{Sought, looks}
+use Rattle.tokens.proofs.Spelling.{looks}
 use Rattle.tokens.proofs.words.look_up.Goals as goal
 
 pub loop-from-init : goal.loop-from-init

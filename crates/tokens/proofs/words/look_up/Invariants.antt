@@ -1,8 +1,7 @@
 -- The place is, at each turn, that among the words not yet compared.
 use Prim.Native.Nat.{◌+◌, ◌-◌}
-use borrow.Author.Rules.{rules}
 use lib.ListN.{length}
-use Rattle.tokens.proofs.Spelling.{Sought, looks}
+use Rattle.tokens.proofs.Spelling.{Sought}
 use Rattle.tokens.proofs.words.look_up.Given as goal
 
 abbrev pub invariant-loop-from : goal.invariant-loop-from

@@ -1,8 +1,6 @@
 -- Whether the bytes are the same is, at each turn, whether the rests are.
-use Prim.Native.Nat.{◌-◌}
 use borrow.Author.Rules.{rules}
-use lib.ListN.{length}
-use Rattle.tokens.proofs.Spelling.{Compared, compares}
+use Rattle.tokens.proofs.Spelling.{compares}
 use Rattle.tokens.proofs.words.same.Goals as goal
 
 pub returns-then-s-t : goal.returns-then-s-t

@@ -1,8 +1,7 @@
 -- Whether the bytes are the same is, at each turn, whether the rests are.
 use Prim.Native.Nat.{◌-◌}
-use borrow.Author.Rules.{rules}
 use lib.ListN.{length}
-use Rattle.tokens.proofs.Spelling.{Compared, compares}
+use Rattle.tokens.proofs.Spelling.{Compared}
 use Rattle.tokens.proofs.words.same.Given as goal
 
 abbrev pub invariant-loop-i : goal.invariant-loop-i

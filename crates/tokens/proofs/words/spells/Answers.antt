@@ -1,9 +1,6 @@
 -- Whether the capitals of the bytes are the word is, at each turn, whether the rests are.
-use Prim.Native.Nat.{◌-◌}
 use borrow.Author.Rules.{rules}
-use lib.ListN.{length}
-use Rattle.model.specs.Word.{capitals}
-use Rattle.tokens.proofs.Spelling.{Compared, spelling, spells_next}
+use Rattle.tokens.proofs.Spelling.{spelling, spells_differ, spells_next}
 use Rattle.tokens.proofs.words.spells.Goals as goal
 
 pub returns-then-s-word : goal.returns-then-s-word
@@ -13,7 +10,7 @@ pub loop-i-init : goal.loop-i-init
 loop-i-init c = search (spelling, rules)
 
 pub returns-then-capital-word : goal.returns-then-capital-word
-returns-then-capital-word c = search (spelling, rules)
+returns-then-capital-word c = spells_differ _ _ _ c.loop-i.invariant _ c.loop-i-test.true c.capital.ensures c.if-capital-word.true
 
 pub loop-i-preserved : goal.loop-i-preserved
 loop-i-preserved c = search (spells_next, c.loop-i.invariant, c.loop-i-test.true, c.capital.ensures, c.if-capital-word.false)

@@ -1,9 +1,8 @@
 -- Whether the capitals of the bytes are the word is, at each turn, whether the rests are.
 use Prim.Native.Nat.{◌-◌}
-use borrow.Author.Rules.{rules}
 use lib.ListN.{length}
 use Rattle.model.specs.Word.{capitals}
-use Rattle.tokens.proofs.Spelling.{Compared, spelling, spells_next}
+use Rattle.tokens.proofs.Spelling.{Compared}
 use Rattle.tokens.proofs.words.spells.Given as goal
 
 abbrev pub invariant-loop-i : goal.invariant-loop-i
