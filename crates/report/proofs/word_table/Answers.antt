@@ -1,9 +1,6 @@
 -- The names before name k are whole, and the rest of the text has what the others lack.
-use Prim.Native.Nat.{◌-◌, ◌<◌}
 use native.Mathlib.Omega.{arith}
-use lib.ListN.{length, drop}
-use Rattle.model.specs.Line.{fields}
-use Rattle.report.proofs.Tables.{size_at, Making, making_none, walked, walk_comma, walk_room, walk_letter}
+use Rattle.report.proofs.Tables.{making_none, walked, walk_comma, walk_room, walk_letter}
 use Rattle.report.proofs.word_table.Goals as goal
 
 pub loop-i-init : goal.loop-i-init

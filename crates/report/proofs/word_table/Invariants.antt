@@ -1,9 +1,8 @@
 -- The names before name k are whole, and the rest of the text has what the others lack.
-use Prim.Native.Nat.{◌-◌, ◌<◌}
-use native.Mathlib.Omega.{arith}
+use Prim.Native.Nat.{◌-◌}
 use lib.ListN.{length, drop}
 use Rattle.model.specs.Line.{fields}
-use Rattle.report.proofs.Tables.{size_at, Making, making_none, walked, walk_comma, walk_room, walk_letter}
+use Rattle.report.proofs.Tables.{Making}
 use Rattle.report.proofs.word_table.Given as goal
 
 abbrev pub invariant-loop-i : goal.invariant-loop-i

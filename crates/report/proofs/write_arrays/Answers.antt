@@ -3,7 +3,6 @@ use Prim.Native.Nat.{ℕ, ◌≤◌}
 use borrow.Author.Rules.{rules}
 use mathlib.Core.List.{List}
 use lib.ListN.{length}
-use Rattle.model.specs.Line.{fields}
 use Rattle.report.specs.declared.Codes.{Codes}
 use Rattle.report.specs.Codes.{codes_of}
 use Rattle.report.specs.Writing.{Room, Tabled, Spelled, words_in}

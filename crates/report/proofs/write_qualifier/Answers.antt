@@ -1,8 +1,7 @@
 -- The word of a code is PLAIN, or the word of the table that stands before its code, or empty past the table.
-use Prim.Native.Nat.{◌-◌, ◌≤◌}
+use Prim.Native.Nat.{◌-◌}
 use native.Mathlib.Omega.{arith}
 use borrow.Author.Rules.{rules}
-use Rattle.report.proofs.Tables.{size_at}
 use Rattle.report.proofs.Words.{plain_room, plain_wrote, no_word_room, no_word_wrote, tabled_room, tabled_wrote}
 use Rattle.report.proofs.write_qualifier.Goals as goal
 

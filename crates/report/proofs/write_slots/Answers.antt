@@ -1,10 +1,7 @@
 -- The loop has left to write the lines of the slots from i on.
-use Prim.Native.Nat.{◌-◌, ◌≤◌}
 use native.Mathlib.Omega.{arith}
 use borrow.Author.Rules.{rules}
-use Rattle.model.specs.Report.{lines}
-use Rattle.report.specs.Writing.{words_in, slot_at}
-use Rattle.report.proofs.Writing.{Left, left_length}
+use Rattle.report.proofs.Writing.{left_length}
 use Rattle.report.proofs.Lines.{turn_start, turn_room, turn_left, turn_end}
 use Rattle.report.proofs.write_slots.Goals as goal
 

@@ -1,11 +1,8 @@
 -- The loop has left to write the lines of the slots from i on.
 use Prim.Native.Nat.{◌-◌, ◌≤◌}
-use native.Mathlib.Omega.{arith}
-use borrow.Author.Rules.{rules}
 use Rattle.model.specs.Report.{lines}
 use Rattle.report.specs.Writing.{words_in, slot_at}
-use Rattle.report.proofs.Writing.{Left, left_length}
-use Rattle.report.proofs.Lines.{turn_start, turn_room, turn_left, turn_end}
+use Rattle.report.proofs.Writing.{Left}
 use Rattle.report.proofs.write_slots.Given as goal
 
 abbrev pub invariant-loop-i : goal.invariant-loop-i

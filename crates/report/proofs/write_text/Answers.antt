@@ -1,9 +1,8 @@
 -- The loop has left to write the rest of the text.
-use Prim.Native.Nat.{◌+◌, ◌-◌, ◌≤◌}
 use native.Mathlib.Omega.{arith}
 use borrow.Author.Rules.{rules}
-use lib.ListN.{length, drop, length-set}
-use Rattle.report.proofs.Writing.{Left, left_length, text_start, text_rest, text_end}
+use lib.ListN.{length-set}
+use Rattle.report.proofs.Writing.{left_length, text_start, text_rest, text_end}
 use Rattle.report.proofs.write_text.Goals as goal
 
 pub loop-i-init : goal.loop-i-init

@@ -1,9 +1,7 @@
 -- The loop has left to write the rest of the text.
 use Prim.Native.Nat.{◌+◌, ◌-◌, ◌≤◌}
-use native.Mathlib.Omega.{arith}
-use borrow.Author.Rules.{rules}
-use lib.ListN.{length, drop, length-set}
-use Rattle.report.proofs.Writing.{Left, left_length, text_start, text_rest, text_end}
+use lib.ListN.{length, drop}
+use Rattle.report.proofs.Writing.{Left}
 use Rattle.report.proofs.write_text.Given as goal
 
 abbrev pub invariant-loop-i : goal.invariant-loop-i

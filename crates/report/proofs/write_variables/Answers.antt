@@ -1,11 +1,9 @@
 -- The loop has left to write the lines of the variables from k on.
-use Prim.Native.Nat.{◌-◌, ◌≤◌, ◌<◌}
+use Prim.Native.Nat.{◌<◌}
 use native.Mathlib.Omega.{arith}
 use borrow.Author.Rules.{rules}
 use lib.ListN.{length}
-use Rattle.model.specs.Report.{lines}
-use Rattle.report.specs.Writing.{words_in, variable_at}
-use Rattle.report.proofs.Writing.{Left, left_length}
+use Rattle.report.proofs.Writing.{left_length}
 use Rattle.report.proofs.Lines.{variable_read, turn_start, turn_room, turn_left, turn_end}
 use Rattle.report.proofs.write_variables.Goals as goal
 

@@ -1,6 +1,5 @@
 -- The part of the array that is lent has `size` bytes.
 use mathlib.Core.Path.{sym}
-use borrow.Author.Rules.{rules}
 use lib.Seq.{length-take-le}
 use Rattle.report.proofs.write_word.Goals as goal
 

@@ -1,5 +1,4 @@
 -- The variables are cleared, then filled by the type rows and by the parameters; the parameters' and the rows' slots are filled beside them.
-use borrow.Author.Rules.{rules}
 use Rattle.slots.proofs.Filled.{mentioned_filled, declared_filled, all_filled}
 use Rattle.slots.proofs.fill.Goals as goal
 

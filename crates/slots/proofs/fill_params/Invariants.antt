@@ -1,11 +1,7 @@
 -- The loop has filled the slots of the first p parameters.
 use Prim.Native.Nat.{◌-◌, ◌≤◌}
-use native.Mathlib.Omega.{arith}
-use mathlib.Core.Path.{◌≡◌}
-use borrow.Author.Rules.{rules}
 use Rattle.model.specs.Machine.{param_in}
 use Rattle.slots.specs.Filling.{SlotsFilled}
-use Rattle.slots.proofs.Slots.{no_slots, more_slots}
 use Rattle.slots.proofs.fill_params.Given as goal
 
 abbrev pub invariant-loop-p : goal.invariant-loop-p

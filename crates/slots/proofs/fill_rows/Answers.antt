@@ -1,10 +1,7 @@
 -- The loop has filled the slots of the first i rows.
-use Prim.Native.Nat.{◌+◌, ◌-◌, ◌≤◌}
 use native.Mathlib.Omega.{arith}
 use mathlib.Core.Path.{◌≡◌}
 use borrow.Author.Rules.{rules}
-use Rattle.layout.specs.Layout.{row_type, row_qualifier}
-use Rattle.slots.specs.Filling.{SlotsFilled}
 use Rattle.slots.proofs.Slots.{no_slots, more_slots}
 use Rattle.slots.proofs.fill_rows.Goals as goal
 

@@ -1,5 +1,4 @@
 -- The two qualifiers of an arrow one after the other; the other forms have none.
-use borrow.Author.Rules.{rules}
 use Rattle.slots.proofs.Variables.{none_filled, both_filled}
 use Rattle.slots.proofs.fill_variables_of_form.Goals as goal
 

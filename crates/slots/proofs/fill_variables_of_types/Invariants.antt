@@ -1,11 +1,7 @@
 -- The loop has filled the variables of the first i type rows.
 use Prim.Native.Nat.{◌-◌, ◌≤◌}
-use native.Mathlib.Omega.{arith}
-use mathlib.Core.Path.{◌≡◌}
 use lib.ListN.{take}
-use borrow.Author.Rules.{rules}
-use Rattle.slots.specs.Filling.{in_form, in_types, VariablesFilled}
-use Rattle.slots.proofs.Variables.{none_filled, more_filled}
+use Rattle.slots.specs.Filling.{in_types, VariablesFilled}
 use Rattle.slots.proofs.fill_variables_of_types.Given as goal
 
 abbrev pub invariant-loop-i : goal.invariant-loop-i

@@ -1,5 +1,4 @@
 -- Within the nodes by the kind's code, and past them the kind is unknown.
-use borrow.Author.Rules.{rules}
 use Rattle.slots.proofs.Shapes.{past_code}
 use Rattle.slots.proofs.shape_at.Goals as goal
 

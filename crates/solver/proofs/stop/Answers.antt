@@ -5,7 +5,7 @@ use borrow.Author.Rules.{rules}
 use Rattle.solver.proofs.stop.Goals as goal
 
 pub all_finite-requires : goal.all_finite-requires
-all_finite-requires c = let pre = c.requires in record { fact_1 = pre.0; fact_2 = pre.1.0; fact_3 = rw c.row_type.ensures (omega (arith, pre.1.1.0), pre.1.1.1) }
+all_finite-requires c = let pre = c.requires in record { fact_1 = pre.fact_1; fact_2 = pre.fact_2; fact_3 = rw c.row_type.ensures (omega (arith, pre.fact_3.0), pre.fact_3.1) }
 
 pub returns-then-all_finite : goal.returns-then-all_finite
 returns-then-all_finite c = (refl, c.all_finite.ensures.finite c.if-all_finite.true)

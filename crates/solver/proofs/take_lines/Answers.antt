@@ -7,7 +7,7 @@ use Rattle.solver.proofs.take_lines.Goals as goal
 
 pub add_types-first-requires : goal.add_types-first-requires
 add_types-first-requires c = let some = c.requires.fact_1 in
-    (some.2.described.parts, omega (arith, some.1.types, some.1.governed.is_well_formed.types_fit))
+    record { fact_1 = some.2.described.parts; fact_2 = omega (arith, some.1.types, some.1.governed.is_well_formed.types_fit) }
 
 pub add_params-all-requires : goal.add_params-all-requires
 add_params-all-requires c = let some = c.requires.fact_1 in
@@ -16,9 +16,9 @@ add_params-all-requires c = let some = c.requires.fact_1 in
 
 pub look_through-requires : goal.look_through-requires
 look_through-requires c = let pre = c.requires in
-    let of = pre.0.1 in
-    let begun = pre.0.2 in
-    record { fact_1 = classes_start of.governed begun.described begun.started; fact_2 = types_start of.governed begun.described begun.started; fact_3 = line_pairs_lem c.add_types-first.ensures c.add_params-all.ensures of begun; fact_4 = pre.1 }
+    let of = pre.fact_1.1 in
+    let begun = pre.fact_1.2 in
+    record { fact_1 = classes_start of.governed begun.described begun.started; fact_2 = types_start of.governed begun.described begun.started; fact_3 = line_pairs_lem c.add_types-first.ensures c.add_params-all.ensures of begun; fact_4 = pre.fact_2 }
 
 pub returns : goal.returns
-returns c = lined _ _ _ _ _ _ c.look_through.result c.add_types-first.ensures c.add_params-all.ensures of begun c.look_through.ensures
+returns c m of begun = lined _ _ _ _ _ _ c.look_through.result c.add_types-first.ensures c.add_params-all.ensures of begun c.look_through.ensures

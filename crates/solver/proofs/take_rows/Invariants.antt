@@ -18,12 +18,17 @@ use Rattle.solver.proofs.Placed.{completed}
 use Rattle.solver.proofs.Ready.{row_of, row_ready, refusal_of_lem, refusal_first}
 use Rattle.solver.proofs.take_rows.Given as goal
 
+-- Before row i of a run over so many of all rows: where they are fewer, the row behind them leaves no typing.
+abbrev pub Before : (R : List ℕ) (m : Machine) (kids : List ℕ) (T : Types) (Q : Qualifiers) (P : Pending) (i rows all : ℕ) → Type 0
+Before R m kids T Q P i rows all = (rows < all → Fails m 21 rows) × Described m kids × After R m kids T Q P i × Ready R i kids T Q P
+
 abbrev pub invariant-loop-pending : goal.invariant-loop-pending
 invariant-loop-pending l = (l.i < l.rows)
     × (l.rows ≤ l.termcount)
-    × ((m : Machine) → Held l.rule m l.formkinds l.qualifiers l.typerows l.initial.crowded l.typecount l.paramcount l.termcount → Described m l.initial.typeparent →
-    Lined l.rule m l.initial.typeparent (types_of l.initial.qualifierparent l.initial.bound) (qualifiers_of l.n l.terms) l.initial.left l.initial.right l.initial.pairqualifier (Kept l.initial.pairtype) →
+    × ((m : Machine) → Held l.rule m l.formkinds l.qualifiers l.typerows l.terms l.typecount l.paramcount l.termcount → Described m l.initial.kids →
+    Lined l.rule m l.initial.kids (types_of l.initial.typeparent l.initial.kind) (qualifiers_of l.initial.qualifierparent l.initial.bound) l.initial.pairqualifier l.initial.pairtype l.initial.crowded (Kept l.n) →
     Before l.rule m l.kids (types_of l.typeparent l.kind) (qualifiers_of l.qualifierparent l.bound) (pending_of l.pairqualifier l.pairtype l.crowded l.count) l.i l.rows l.termcount)
 
+-- A further run has fewer rows, of at most 256; in a run the rows that are left fall.
 abbrev pub decreases-loop-pending : goal.decreases-loop-pending
 decreases-loop-pending l = 257 * l.rows + (l.rows - l.i)
