@@ -8,7 +8,7 @@ use lib.ListN.{set}
 use lib.Dec.{ltb}
 use borrow.Author.Tests.{lt-ltb}
 use Rattle.layout.specs.Layout.{row_type, row_qualifier, nodes}
-use Rattle.scheme.specs.Rule.{words_at, top_at, highest_at, under, Lattice}
+use Rattle.scheme.specs.Rule.{highest_at, under}
 use Rattle.scheme.specs.Operation.{keeps, result_of}
 use Rattle.model.specs.Typing.{Ty, int}
 use Rattle.model.specs.declared.Term.TheVariants.{Op}

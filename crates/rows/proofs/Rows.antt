@@ -1,5 +1,5 @@
 -- Rows whose nodes are new: their kind or their parent is stored, and their qualifier put under another.
-use Prim.Native.Nat.{ℕ, ◌+◌, ◌-◌, ◌<◌, ◌≤◌}
+use Prim.Native.Nat.{ℕ, ◌+◌, ◌<◌, ◌≤◌}
 use native.Mathlib.Omega.{arith}
 use mathlib.Core.Bool.{true}
 use mathlib.Core.List.{List}
@@ -9,7 +9,7 @@ use Rattle.layout.specs.Kinds.{arrow_kind, descriptor_of}
 use Rattle.layout.specs.Layout.{row_type, row_qualifier, qualifiers_from}
 use Rattle.model.specs.Typing.{Ty, int, arrow}
 use Rattle.forest.specs.Forest.{Hung}
-use Rattle.graph.specs.Types.{Types, TypeClasses, Equation, arrow_of, Same, NodeInt, NodeArrow, types_of}
+use Rattle.graph.specs.Types.{Types, TypeClasses, Equation, arrow_of, types_of}
 use Rattle.graph.specs.Unused.{Within, Unused}
 use Rattle.graph.specs.Steady.{Steady}
 use Rattle.graph.proofs.Steady.{steady_kind, steady_hung}

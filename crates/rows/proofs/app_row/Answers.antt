@@ -5,7 +5,6 @@ use mathlib.Core.Path.{refl}
 use Rattle.graph.specs.Types.{kind_at}
 use Rattle.unification.proofs.Merging.{at_root}
 use Rattle.rows.proofs.Applications.{unknown_ready, app_unknown, app_int, arrow_ready, app_arrow}
-use borrow.Author.Rules.{rules}
 use Rattle.rows.proofs.app_row.Goals as goal
 
 pub bind_row-requires : goal.bind_row-requires

@@ -2,7 +2,6 @@
 use native.Mathlib.Omega.{arith}
 use Rattle.unification.proofs.Classes.{kind_classes}
 use Rattle.rows.proofs.Binding.{bound, unbound}
-use borrow.Author.Rules.{rules}
 use Rattle.rows.proofs.bind.Goals as goal
 
 pub returns-then-kind-find-lt-FIRST_ARROW : goal.returns-then-kind-find-lt-FIRST_ARROW

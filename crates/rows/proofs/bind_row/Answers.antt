@@ -1,7 +1,6 @@
 -- `rows::bind_row`: each way out is one law over the lists before and after.
 use native.Mathlib.Omega.{arith}
 use Rattle.rows.proofs.Binding.{bind_cyclic, plain_ready, note_ready, bind_classes, bind_apart, bind_fine, bind_broken}
-use borrow.Author.Rules.{rules}
 use Rattle.rows.proofs.bind_row.Goals as goal
 
 pub bind-requires : goal.bind-requires

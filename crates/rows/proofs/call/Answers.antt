@@ -1,7 +1,6 @@
 -- `rows::call`: the row's node is hung and two pairs are noted, and what the unification answers is the row's answer.
 use native.Mathlib.Omega.{arith}
 use Rattle.rows.proofs.Calling.{call_ready, called}
-use borrow.Author.Rules.{rules}
 use Rattle.rows.proofs.call.Goals as goal
 
 pub row_type-requires-2 : goal.row_type-requires-2

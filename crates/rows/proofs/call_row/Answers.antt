@@ -2,7 +2,6 @@
 use native.Mathlib.Omega.{arith}
 use Rattle.unification.proofs.Unused.{used_within}
 use Rattle.rows.proofs.CallRows.{call_clash, call_apart, look_ready, call_classes, call_fine, call_broken, call_parted}
-use borrow.Author.Rules.{rules}
 use Rattle.rows.proofs.call_row.Goals as goal
 
 pub part-requires : goal.part-requires

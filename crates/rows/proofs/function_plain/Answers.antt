@@ -3,7 +3,6 @@ use native.Mathlib.Omega.{arith}
 use mathlib.Core.Path.{refl}
 use Rattle.rows.specs.Applying.{looked, bare}
 use Rattle.rows.proofs.Binding.{own_plain, own_apart}
-use borrow.Author.Rules.{rules}
 use Rattle.rows.proofs.function_plain.Goals as goal
 
 pub returns-then-crowded-function-gt0 : goal.returns-then-crowded-function-gt0

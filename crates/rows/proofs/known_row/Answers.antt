@@ -1,7 +1,5 @@
 -- `rows::known_row`: a store at the row's own node, and its qualifier put under a root.
-use native.Mathlib.Omega.{arith}
 use mathlib.Core.Path.{refl}
-use borrow.Author.Rules.{rules}
 use Rattle.rows.proofs.known_row.Goals as goal
 
 pub returns : goal.returns

@@ -1,7 +1,6 @@
 -- `rows::look_if`: the pairs are looked through, or as they were.
 use mathlib.Core.Path.{refl}
 use Rattle.rows.specs.Applying.{swept, still}
-use borrow.Author.Rules.{rules}
 use Rattle.rows.proofs.look_if.Goals as goal
 
 pub returns-then-not-closes : goal.returns-then-not-closes

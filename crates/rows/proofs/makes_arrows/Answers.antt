@@ -1,6 +1,5 @@
 -- `rows::makes_arrows`: each exit by the kinds of the two roots.
 use Rattle.rows.proofs.Unifying.{foreseen_arrow, foreseen_one, foreseen_none}
-use borrow.Author.Rules.{rules}
 use Rattle.rows.proofs.makes_arrows.Goals as goal
 
 pub returns-then-a-b : goal.returns-then-a-b

@@ -4,7 +4,6 @@ use native.Mathlib.Omega.{arith}
 use Rattle.layout.specs.Layout.{nodes}
 use Rattle.qualifiers.proofs.Uniting.{class_node}
 use Rattle.rows.proofs.Operations.{result_one, left_clash, left_classes, right_clash, operands_apart, op_fine, op_broken}
-use borrow.Author.Rules.{rules}
 use Rattle.rows.proofs.op_row.Goals as goal
 
 pub returns-then-not-make_int : goal.returns-then-not-make_int

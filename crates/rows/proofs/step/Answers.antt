@@ -1,7 +1,6 @@
 -- `rows::step`: each kind of row by its own law.
 use native.Mathlib.Omega.{arith}
 use Rattle.rows.proofs.Rows.{row_int, row_literal, row_same, row_arrow}
-use borrow.Author.Rules.{rules}
 use Rattle.rows.proofs.step.Goals as goal
 
 pub app_row-requires : goal.app_row-requires

@@ -1,6 +1,5 @@
 -- `rows::unify_kept`: what the unification answers, or the types put back.
 use Rattle.rows.proofs.Unifying.{put_back, cyclic}
-use borrow.Author.Rules.{rules}
 use Rattle.rows.proofs.unify_kept.Goals as goal
 
 pub finite_from-requires : goal.finite_from-requires
