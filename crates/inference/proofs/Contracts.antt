@@ -10,6 +10,7 @@ use types.Logic.{Logic}
 use contract.Monad.{Fun, fact, fact_mono}
 use contract.Lifetimes.{Lfts}
 use denote.Ref.{Bor}
+use denote.MutBor.{MutBor}
 use Rattle.scheme.specs.Six.{six_table}
 use Rattle.schemes.specs.Schemes.{Kept}
 use Rattle.model.specs.Machine.{fresh_machine}
@@ -53,7 +54,7 @@ module _ {M : Type 1} {𝓤 : Ura M} (𝓛 : Logic 𝓤) (at_mem : Memory → SP
         ent 𝓤 ((table-take-back.clauses 𝓛 at_mem run κs (t, tt)).ensures tt r (t', tt)) (fact 𝓤 (Step t take_back (returning r.number) r.table))
     take_back_contract κs r = fact_mono 𝓤 _ _ (λ e. changes (takes_back e.0 e.1))
 
-    pub infer_contract : (κs : Lfts 1) (buffer buffer' : Bor (List ℕ)) (r : Inferred) →
+    pub infer_contract : (κs : Lfts 1) (buffer buffer' : MutBor (List ℕ)) (r : Inferred) →
         ent 𝓤 ((inference-infer.clauses 𝓛 at_mem run κs (t, (buffer, tt))).ensures tt r (t', (buffer', tt))) (fact 𝓤 (Step t (infer buffer.now) (outcome r buffer'.now) t))
     infer_contract κs buffer buffer' r = fact_mono 𝓤 _ _ (λ said. infers (λ ready. said))
 
@@ -74,5 +75,5 @@ module _ {M : Type 1} {𝓤 : Ura M} (𝓛 : Logic 𝓤) (at_mem : Memory → SP
   take_back_requires κs t = id⊢ 𝓤 _
 
   -- The premise under which a step speaks of infer is enough for the call.
-  pub infer_requires : (κs : Lfts 1) (t : Table) (buffer : Bor (List ℕ)) → ent 𝓤 (fact 𝓤 (Ready t)) ((inference-infer.clauses 𝓛 at_mem run κs (t, (buffer, tt))).requires tt)
+  pub infer_requires : (κs : Lfts 1) (t : Table) (buffer : MutBor (List ℕ)) → ent 𝓤 (fact 𝓤 (Ready t)) ((inference-infer.clauses 𝓛 at_mem run κs (t, (buffer, tt))).requires tt)
   infer_requires κs t buffer = fact_mono 𝓤 _ _ (λ ready. ready)

@@ -3,7 +3,6 @@ use mathlib.Core.Path.{refl}
 use Rattle.solver.proofs.Stops.{rule_lattice}
 use Rattle.inference.proofs.Floors.{codes_worded, every_met, one_missed}
 use Rattle.inference.proofs.Judging.{ready_governed, judges_missed, judges_accepted}
-use borrow.Author.Rules.{rules}
 use Rattle.inference.proofs.above_floors.Goals as goal
 
 pub lowest_missed-requires : goal.lowest_missed-requires

@@ -1,7 +1,6 @@
 -- Each exit of `infer` is one answer.
 use mathlib.Core.Path.{refl}
 use Rattle.inference.proofs.Judging.{short_refused, judged_refused, report_written}
-use borrow.Author.Rules.{rules}
 use Rattle.inference.proofs.infer.Goals as goal
 
 pub returns-then-buffer-lt-REPORT : goal.returns-then-buffer-lt-REPORT

@@ -1,7 +1,6 @@
 -- Each way through `judge` is one of the judgements.
 use mathlib.Core.Path.{refl}
 use Rattle.inference.proofs.Judging.{judges_open, judges_untypable}
-use borrow.Author.Rules.{rules}
 use Rattle.inference.proofs.judge.Goals as goal
 
 pub returns-then-not-is_closed : goal.returns-then-not-is_closed

@@ -4,7 +4,6 @@ use mathlib.Core.Path.{sym, subst}
 use Rattle.schemes.specs.Schemes.{table_in}
 use Rattle.solver.specs.Runs.{Governed}
 use Rattle.inference.proofs.Judging.{same_machine, ready_governed}
-use borrow.Author.Rules.{rules}
 use Rattle.inference.proofs.solve.Goals as goal
 
 pub solve-requires : goal.solve-requires

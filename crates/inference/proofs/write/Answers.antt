@@ -1,7 +1,6 @@
 -- The names' front are the machine's names, and the counts its lists'.
 use mathlib.Core.Path.{sym}
 use Rattle.inference.proofs.Judging.{front_names, front_short}
-use borrow.Author.Rules.{rules}
 use Rattle.inference.proofs.write.Goals as goal
 
 pub write-requires : goal.write-requires
