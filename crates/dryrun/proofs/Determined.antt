@@ -1,11 +1,10 @@
 -- Each expression has at most one next step, and each run one outcome.
-use Prim.Native.Nat.{ℕ, zero, suc, ◌+◌, ◌≤◌, ◌<◌}
+use Prim.Native.Nat.{ℕ, ◌≤◌}
 use native.Mathlib.Omega.{arith}
-use mathlib.Core.List.{List}
-use mathlib.Core.Path.{◌≡◌, refl, sym, ap, ap₂, subst}
-use Rattle.dryrun.specs.Expression.{Expression, number, variable, function, apply, operate, Value, a_number, a_function, substituted}
-use Rattle.dryrun.specs.Transition.{Rule, Kind, application, operation, calculated, result_tag, Step, applies, operates, in_function, in_argument, in_left, in_right}
-use Rattle.dryrun.specs.Run.{Answer, Counts, Outcome, steps, counted, largest_number, Fits, applying, in_range, Runs, ends_number, ends_function, out_of_budget, too_deep, overflows, steps_on}
+use mathlib.Core.Path.{◌≡◌, refl, sym, subst}
+use Rattle.dryrun.specs.Expression.{Expression, number, variable, function, apply, operate, Value, a_number, a_function}
+use Rattle.dryrun.specs.Transition.{Rule, Kind, operation, calculated, result_tag, Step, applies, operates, in_function, in_argument, in_left, in_right}
+use Rattle.dryrun.specs.Run.{Counts, Outcome, largest_number, Fits, in_range, Runs, ends_number, ends_function, out_of_budget, too_deep, overflows, steps_on}
 
 -- A value is no application and no operation.
 abbrev pub Finished : Expression → Type 0

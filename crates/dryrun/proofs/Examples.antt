@@ -1,13 +1,13 @@
 -- Runs of \x. x + x, and of functions of one parameter inside each other.
-use Prim.Native.Nat.{ℕ, zero, suc, ◌+◌, ◌≤◌, ◌<◌}
+use Prim.Native.Nat.{ℕ}
 use native.Mathlib.Omega.{arith}
 use mathlib.Core.Path.{◌≡◌, refl}
 use Rattle.scheme.specs.Schemes.{greatest, below}
 use Rattle.model.specs.Strength.{six}
 use Rattle.dryrun.specs.Expression.{Expression, number, variable, function, apply, operate, Value, substituted}
-use Rattle.dryrun.specs.Transition.{Tagged, supported, calculated, result_tag, Step, applies, operates, operation, application}
-use Rattle.dryrun.specs.Run.{Counts, nothing_made, Outcome, a_number, no_answer, Runs, ends_number, out_of_budget, overflows, steps_on, applying, in_range}
-use Rattle.dryrun.proofs.Determined.{Finished, value_finished}
+use Rattle.dryrun.specs.Transition.{Tagged, supported, calculated, result_tag, Step, applies, operates, operation}
+use Rattle.dryrun.specs.Run.{Counts, nothing_made, a_number, no_answer, Runs, ends_number, out_of_budget, overflows, steps_on, applying, in_range}
+use Rattle.dryrun.proofs.Determined.{value_finished}
 
 abbrev double : ℕ → Expression
 double n = apply (function 0 (operate 0 (variable 0) (variable 0))) (number n 5)

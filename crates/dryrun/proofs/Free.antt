@@ -1,10 +1,10 @@
 -- Free parameters: none stands free in a job, and no step frees one.
-use Prim.Native.Nat.{ℕ, zero, suc, ◌+◌, ◌≤◌, ◌<◌}
+use Prim.Native.Nat.{ℕ}
 use mathlib.Core.Bool.{Bool, true, false, cond, ◌||◌}
-use mathlib.Core.Path.{◌≡◌, refl, sym, ap, ap₂, subst, ◌∙◌}
+use mathlib.Core.Path.{◌≡◌, refl, sym}
 use lib.Dec.{eqb}
 use borrow.Author.Tests.{eqb-true, eq-eqb}
-use Rattle.dryrun.specs.Expression.{Expression, number, variable, function, apply, operate, Value, substituted}
+use Rattle.dryrun.specs.Expression.{Expression, number, variable, function, apply, operate, substituted}
 use Rattle.dryrun.specs.Transition.{Rule, Kind, Step, applies, operates, in_function, in_argument, in_left, in_right}
 use Rattle.dryrun.specs.Free.{free, NoneFree}
 use Rattle.dryrun.proofs.Typed.{by_cases}

@@ -1,24 +1,24 @@
 -- An accepted job is typed at the reported words and has no free parameter, so its run is sound.
-use Prim.Native.Nat.{ℕ, zero, suc, ◌+◌, ◌-◌, ◌≤◌, ◌<◌}
+use Prim.Native.Nat.{ℕ, zero, suc, ◌<◌}
 use native.Mathlib.Omega.{arith}
-use mathlib.Core.Bool.{Bool, true, false, cond, ◌||◌, false≢true}
+use mathlib.Core.Bool.{true, ◌||◌}
 use mathlib.Core.List.{List, [], ◌∷◌}
-use mathlib.Core.Path.{◌≡◌, refl, sym, ap, ap₂, subst, subst₂, ◌∙◌}
+use mathlib.Core.Path.{◌≡◌, refl, subst, subst₂}
 use lib.Dec.{eqb}
 use lib.ListN.{length}
-use borrow.Author.Tests.{eqb-true, eq-eqb}
+use borrow.Author.Tests.{eq-eqb}
 use Rattle.scheme.specs.Schemes.{words}
 use Rattle.model.specs.Lists.{contains}
-use Rattle.model.specs.Machine.{Machine, term_at, children}
-use Rattle.model.specs.Closed.{Closed, Beneath, itself, child, Inside}
+use Rattle.model.specs.Machine.{Machine, term_at}
+use Rattle.model.specs.Closed.{Closed}
 use Rattle.model.specs.WellFormed.{WellFormed, TermStands}
 use Rattle.model.specs.Strength.{Schemes, whole}
-use Rattle.model.specs.Typing.{Ty, int, arrow, Assignment, Typing, RowMeets, result_qualifier}
+use Rattle.model.specs.Typing.{Ty, int, Assignment, RowMeets}
 use Rattle.model.specs.Inference.{Slot, param, row, Shape, GreatestTyping, ShapeSays, IsInt, is_int}
 use Rattle.model.specs.declared.Term.{Term}
 use Rattle.model.specs.declared.Term.TheVariants.{Lam, App, Op, Var, Num, Enc}
 use Rattle.model.proofs.Unique.{Lawful}
-use Rattle.dryrun.specs.Expression.{Expression, number, variable, function, apply, operate, row_expression, unfolded, leading_of, leading_from, applied}
+use Rattle.dryrun.specs.Expression.{Expression, number, apply, row_expression, unfolded, leading_of, leading_from, applied}
 use Rattle.dryrun.specs.Run.{last_row, leading, job, NoArrow}
 use Rattle.dryrun.proofs.Typed.{Typed, by_cases}
 use Rattle.dryrun.proofs.Progress.{Sound}

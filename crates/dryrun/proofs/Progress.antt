@@ -1,16 +1,15 @@
 -- A typed expression without free parameters is a value or makes a step: a run never gets stuck.
 -- Source document 001, section 1.4, Lemma 1.
-use Prim.Native.Nat.{ℕ, zero, suc, ◌+◌, ◌≤◌, ◌<◌}
+use Prim.Native.Nat.{ℕ}
 use native.Mathlib.Omega.{arith}
-use mathlib.Core.Bool.{Bool, true, false, cond, ◌||◌, false≢true}
-use mathlib.Core.Path.{◌≡◌, refl, sym, ap, ap₂, subst, subst₂, ◌∙◌}
-use lib.Dec.{eqb}
+use mathlib.Core.Bool.{false≢true}
+use mathlib.Core.Path.{◌≡◌, refl, sym, subst, ◌∙◌}
 use borrow.Author.Tests.{eq-eqb}
-use Rattle.model.specs.Strength.{Schemes, whole}
-use Rattle.model.specs.Typing.{Ty, int, arrow, Assignment, result_qualifier}
+use Rattle.model.specs.Strength.{Schemes}
+use Rattle.model.specs.Typing.{Ty, int, arrow, Assignment}
 use Rattle.model.proofs.Unique.{Lawful}
-use Rattle.dryrun.specs.Expression.{Expression, number, variable, function, apply, operate, Value, a_number, a_function, substituted}
-use Rattle.dryrun.specs.Transition.{Rule, Kind, application, operation, calculated, result_tag, Step, applies, operates, in_function, in_argument, in_left, in_right, Tagged, supported, Meets, Goes, over, on}
+use Rattle.dryrun.specs.Expression.{Expression, number, variable, function, apply, operate, Value, a_number, a_function}
+use Rattle.dryrun.specs.Transition.{Rule, applies, operates, in_function, in_argument, in_left, in_right, Tagged, supported, Meets, Goes, over, on}
 use Rattle.dryrun.specs.Run.{Counts, Reaches, itself, further}
 use Rattle.dryrun.proofs.Typed.{Typed, preserved, one_tag}
 use Rattle.dryrun.proofs.Free.{neither, step_none_free}

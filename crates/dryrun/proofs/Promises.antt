@@ -4,8 +4,7 @@ use native.Mathlib.Omega.{arith}
 use mathlib.Core.List.{List}
 use mathlib.Core.Path.{◌≡◌, refl}
 use Rattle.model.specs.Machine.{Machine}
-use Rattle.model.specs.Closed.{Closed}
-use Rattle.model.specs.Inference.{ruling, Slot, Shape, GreatestTyping, Judged}
+use Rattle.model.specs.Inference.{ruling, Slot, Shape, GreatestTyping}
 use Rattle.model.proofs.Lawful.{sound_lawful}
 use Rattle.model.proofs.Unique.{Lawful, judged_accepted}
 use Rattle.dryrun.specs.Expression.{Expression}
@@ -14,7 +13,7 @@ use Rattle.dryrun.specs.Run.{Counts, nothing_made, steps, counted, Outcome, Runs
 use Rattle.dryrun.specs.Free.{NoneFree}
 use Rattle.dryrun.proofs.Progress.{Sound, reached_sound, sound_one_tag, sound_goes}
 use Rattle.dryrun.proofs.Job.{job_sound}
-use Rattle.dryrun.proofs.Ends.{counted_one, runs_end}
+use Rattle.dryrun.proofs.Ends.{runs_end}
 use Rattle.dryrun.proofs.Same.{judged_closed}
 
 module _ {m : Machine} {word : Slot → ℕ} {shape : Slot → Shape} (accepted : Accepted m word shape) (numbers : List ℕ) where

@@ -1,21 +1,21 @@
 -- A closed program's job has no free parameter: the LAM that binds a VAR's parameter stands above it, and the last row stands beneath no LAM.
-use Prim.Native.Nat.{ℕ, zero, suc, ◌+◌, ◌-◌, ◌≤◌, ◌<◌}
+use Prim.Native.Nat.{ℕ, zero, suc, ◌≤◌, ◌<◌}
 use native.Mathlib.Omega.{arith}
 use mathlib.Core.Bool.{Bool, true, false, cond, ◌||◌, or-true, false≢true}
 use mathlib.Core.List.{List, [], ◌∷◌}
-use mathlib.Core.Path.{◌≡◌, refl, sym, ap, ap₂, subst, ◌∙◌}
+use mathlib.Core.Path.{◌≡◌, refl, sym, ap, subst, ◌∙◌}
 use lib.Dec.{eqb}
 use lib.ListN.{length}
 use borrow.Author.Tests.{eqb-true, eq-eqb, ne_eqb}
 use Rattle.scheme.specs.Schemes.{words}
 use Rattle.model.specs.Lists.{contains}
 use Rattle.model.specs.Machine.{Machine, term_at, children, binds}
-use Rattle.model.specs.Closed.{Closed, Beneath, itself, child, Inside}
+use Rattle.model.specs.Closed.{Closed, Beneath, itself, child}
 use Rattle.model.specs.WellFormed.{WellFormed, TermStands}
 use Rattle.model.specs.Inference.{Slot, param, row}
 use Rattle.model.specs.declared.Term.{Term}
 use Rattle.model.specs.declared.Term.TheVariants.{Lam, App, Op, Var, Num, Enc}
-use Rattle.dryrun.specs.Expression.{Expression, number, variable, function, apply, operate, row_expression, unfolded, applied}
+use Rattle.dryrun.specs.Expression.{Expression, number, apply, row_expression, unfolded, applied}
 use Rattle.dryrun.specs.Run.{last_row, leading, job}
 use Rattle.dryrun.proofs.Typed.{by_cases}
 use Rattle.dryrun.proofs.Free.{both_false}

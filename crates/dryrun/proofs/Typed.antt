@@ -1,18 +1,18 @@
 -- Typed expressions. A typing gives each parameter one qualified type, whichever copy of its LAM binds it, so no environment of types is needed:
 -- the assignment s is the environment.
 -- Source document 001, section 1.3.1.
-use Prim.Native.Nat.{ℕ, zero, suc, ◌+◌, ◌≤◌, ◌<◌}
+use Prim.Native.Nat.{ℕ, ◌<◌}
 use native.Mathlib.Omega.{arith}
 use mathlib.Core.Bool.{Bool, true, false, cond}
-use mathlib.Core.Path.{◌≡◌, refl, sym, ap, ap₂, subst, subst₂, ◌∙◌}
+use mathlib.Core.Path.{◌≡◌, refl, sym, subst₂, ◌∙◌}
 use lib.Dec.{eqb}
 use borrow.Author.Tests.{eqb-true}
 use Rattle.scheme.specs.Operation.{keeps}
 use Rattle.model.specs.Strength.{Schemes, whole}
-use Rattle.model.specs.Typing.{Ty, int, arrow, Assignment, Qualified, result_qualifier}
+use Rattle.model.specs.Typing.{Ty, int, arrow, Assignment, result_qualifier}
 use Rattle.model.proofs.Unique.{Lawful}
-use Rattle.dryrun.specs.Expression.{Expression, number, variable, function, apply, operate, Value, a_number, a_function, substituted}
-use Rattle.dryrun.specs.Transition.{Rule, Kind, application, operation, calculated, result_tag, Step, applies, operates, in_function, in_argument, in_left, in_right, Tagged, supported, Meets, here}
+use Rattle.dryrun.specs.Expression.{Expression, number, variable, function, apply, operate, substituted}
+use Rattle.dryrun.specs.Transition.{Rule, Kind, result_tag, Step, applies, operates, in_function, in_argument, in_left, in_right, Meets, here}
 
 pub by_cases : (P : Bool → Type 0) (b : Bool) → (b ≡ true → P true) → (b ≡ false → P false) → P b
 by_cases P true f g = f refl

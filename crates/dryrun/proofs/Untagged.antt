@@ -1,13 +1,12 @@
 -- The untagged form of each step is the plain domain's step; so the untagged form of a run is the plain run, with the same counts.
-use Prim.Native.Nat.{ℕ, zero, suc, ◌+◌, ◌≤◌, ◌<◌}
+use Prim.Native.Nat.{ℕ}
 use mathlib.Core.Bool.{Bool, true, false, cond}
-use mathlib.Core.Path.{◌≡◌, refl, sym, ap, ap₂, subst}
+use mathlib.Core.Path.{◌≡◌, refl, ap₂, subst}
 use lib.Dec.{eqb}
 use Rattle.scheme.specs.Operation.{keeps}
-use Rattle.model.specs.Strength.{Schemes}
 use Rattle.dryrun.specs.Expression.{Expression, number, variable, function, apply, operate, Value, a_number, a_function, substituted}
-use Rattle.dryrun.specs.Transition.{Rule, Kind, application, operation, calculated, result_tag, Step, applies, operates, in_function, in_argument, in_left, in_right, Tagged, Plain, untagged, untagged_form}
-use Rattle.dryrun.specs.Run.{Counts, Outcome, untagged_answer, untagged_outcome, steps, counted, Fits, applying, in_range, Runs, ends_number, ends_function, out_of_budget, too_deep, overflows, steps_on, Reaches, itself, further}
+use Rattle.dryrun.specs.Transition.{Rule, Kind, operation, calculated, result_tag, Step, applies, operates, in_function, in_argument, in_left, in_right, Plain, untagged, untagged_form}
+use Rattle.dryrun.specs.Run.{Counts, Outcome, untagged_answer, untagged_outcome, Runs, ends_number, ends_function, out_of_budget, too_deep, overflows, steps_on, Reaches, itself, further}
 
 untagged_value : {v : Expression} → Value v → Value (untagged_form v)
 unfolding untagged_form

@@ -1,6 +1,6 @@
 -- Expressions, and the one that a dry run starts from.
 -- Source document 001, section 1.1; document 02, e).
-use Rattle.std.specs.Prelude.{ℕ, zero, suc, cond, List, [], ◌∷◌, eqb, length}
+use Rattle.std.specs.Prelude.{ℕ, zero, suc, cond, List, [], ◌∷◌, eqb}
 use Rattle.model.specs.Machine.{Machine, term_at}
 use Rattle.model.specs.Inference.{Slot, param, row}
 use Rattle.model.specs.declared.Term.{Term}

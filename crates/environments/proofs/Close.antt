@@ -1,12 +1,12 @@
 -- Environments: an expression with values put in for all its free parameters at once. Binding one more is one substitution.
-use Prim.Native.Nat.{ℕ, zero, suc, ◌+◌, ◌≤◌, ◌<◌}
-use mathlib.Core.Bool.{Bool, true, false, cond, ◌||◌, false≢true}
-use mathlib.Core.Path.{◌≡◌, refl, sym, ap, ap₂, subst, fun_ext, ◌∙◌}
+use Prim.Native.Nat.{ℕ}
+use mathlib.Core.Bool.{false, cond}
+use mathlib.Core.Path.{◌≡◌, refl, sym, ap, ap₂, fun_ext, ◌∙◌}
 use lib.Dec.{eqb}
-use borrow.Author.Tests.{eqb-true, eqb-false, eq-eqb, ne_eqb}
+use borrow.Author.Tests.{eqb-true}
 use Rattle.dryrun.specs.Expression.{Expression, number, variable, function, apply, operate, substituted}
 use Rattle.dryrun.proofs.Typed.{by_cases}
-use Rattle.dryrun.proofs.Free.{neither, both_false}
+use Rattle.dryrun.proofs.Free.{neither}
 use Rattle.dryrun.specs.Free.{free, NoneFree}
 use Rattle.environments.specs.Standing.{Env, without, extended, close}
 

@@ -1,10 +1,10 @@
 -- Steps under reduction contexts: a step inside makes a step of the whole, and a whole that is no value within steps inside.
-use Prim.Native.Nat.{ℕ, zero, suc, ◌+◌, ◌≤◌, ◌<◌}
+use Prim.Native.Nat.{ℕ, suc, ◌+◌}
 use native.Mathlib.Omega.{arith}
 use mathlib.Core.List.{List, [], ◌∷◌}
-use mathlib.Core.Path.{◌≡◌, refl, sym, ap, subst, ◌∙◌}
+use mathlib.Core.Path.{◌≡◌, refl, subst}
 use lib.ListN.{length}
-use Rattle.dryrun.specs.Expression.{Expression, number, variable, function, apply, operate, Value, a_number, a_function}
+use Rattle.dryrun.specs.Expression.{Expression, Value}
 use Rattle.dryrun.specs.Transition.{Rule, Kind, Step, applies, operates, in_function, in_argument, in_left, in_right}
 use Rattle.environments.specs.Standing.{Frame, argument, called, right, left, around, plug}
 use Rattle.dryrun.specs.Free.{free, NoneFree}

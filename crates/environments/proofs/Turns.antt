@@ -1,28 +1,28 @@
 -- One turn of the run: what each move of the code does to what the arrays stand for.
-use Prim.Native.Nat.{ℕ, zero, suc, ◌+◌, ◌-◌, ◌≤◌, ◌<◌}
+use Prim.Native.Nat.{ℕ, zero, suc, ◌+◌, ◌≤◌, ◌<◌}
 use native.Mathlib.Omega.{arith}
 use mathlib.Core.Bool.{Bool, true, false, cond, false≢true}
-use mathlib.Core.List.{List, [], ◌∷◌}
+use mathlib.Core.List.{List, ◌∷◌}
 use mathlib.Core.Path.{◌≡◌, refl, sym, ap, ap₂, subst, ◌∙◌}
 use lib.Dec.{eqb}
 use lib.ListN.{length, get_or}
-use borrow.Author.Tests.{eqb-true, eqb-false, eq-eqb, ne_eqb}
+use borrow.Author.Tests.{eq-eqb, ne_eqb}
 use Rattle.model.specs.Machine.{Machine, term_at}
 use Rattle.model.specs.WellFormed.{WellFormed, TermStands}
 use Rattle.scheme.specs.Schemes.{words}
 use Rattle.model.specs.Inference.{ruling, Slot, row}
 use Rattle.model.specs.declared.Term.{Term}
 use Rattle.model.specs.declared.Term.TheVariants.{Lam, App, Op, Var, Num, Enc}
-use Rattle.dryrun.specs.Expression.{Expression, number, variable, function, apply, operate, Value, substituted, row_expression, unfolded}
+use Rattle.dryrun.specs.Expression.{Expression, number, function, apply, operate, Value, row_expression, unfolded}
 use Rattle.dryrun.specs.Transition.{Rule, Kind, application, operation, calculated, result_tag, Step, applies, operates, in_function, in_argument, in_left, in_right, Tagged, Goes, over, on}
-use Rattle.dryrun.specs.Run.{Counts, nothing_made, Outcome, a_number, a_function, no_answer, refused, ended, most_contexts, largest_number, steps, counted, Fits, applying, in_range, Runs, ends_number, ends_function, out_of_budget, too_deep, overflows, steps_on, Reaches, itself, further}
-use Rattle.environments.specs.Standing.{Safe, Env, without, extended, close, Frame, argument, called, right, left, around, plug, Cells, Frames, row_of, Binds, nothing, Means, Stack, bottom, on_argument, on_called, on_right, on_number, on_left, Control, a_row, a_value, Standing}
-use Rattle.dryrun.specs.Free.{free, NoneFree}
+use Rattle.dryrun.specs.Run.{Counts, nothing_made, Outcome, a_number, a_function, refused, ended, most_contexts, largest_number, steps, counted, Fits, applying, in_range, Runs, ends_number, ends_function, out_of_budget, too_deep, overflows, steps_on, Reaches, itself, further}
+use Rattle.environments.specs.Standing.{Safe, Env, without, extended, close, Frame, argument, called, right, left, plug, Cells, Frames, row_of, Binds, nothing, Means, Stack, bottom, on_argument, on_called, on_right, on_number, on_left, Control, a_row, a_value, Standing}
+use Rattle.dryrun.specs.Free.{NoneFree}
 use Rattle.environments.specs.Kinds.{function_tag, argument_kind, right_kind, number_kind, called_kind, left_kind}
-use Rattle.dryrun.proofs.Determined.{Finished, value_finished, value_stays}
+use Rattle.dryrun.proofs.Determined.{Finished, value_stays}
 use Rattle.dryrun.proofs.Typed.{by_cases}
 use Rattle.environments.proofs.Close.{Good, good_none, good_extended, substituted_close}
-use Rattle.environments.proofs.Contexts.{Upright, AllUpright, []ᵁ, ◌∷ᵁ◌, plug_step, plug_inside, plug_no_value, plug_none_free}
+use Rattle.environments.proofs.Contexts.{AllUpright, []ᵁ, ◌∷ᵁ◌, plug_step, plug_inside, plug_no_value, plug_none_free}
 
 -- The first `count` cells stay.
 pub record Kept (c c' : Cells) (count : ℕ) : Type 0 where

@@ -3,18 +3,17 @@ use Prim.Native.Nat.{ℕ, zero, suc, ◌+◌, ◌-◌, ◌*◌, ◌≤◌, ◌<�
 use native.Mathlib.Omega.{arith}
 use native.Mathlib.Decide.{ℕ_discrete}
 use native.Mathlib.Nat.{suc-mul}
-use mathlib.Core.Bool.{Bool, true, false, cond}
+use mathlib.Core.Bool.{Bool, true, false}
 use mathlib.Core.List.{List}
-use mathlib.Core.Path.{◌≡◌, refl, sym, ap, ap₂, subst, ◌∙◌}
-use lib.Dec.{eqb, ltb}
+use mathlib.Core.Path.{◌≡◌, refl, ap, ap₂}
 use lib.ListN.{length, get_or}
-use borrow.Author.Tests.{eq-eqb, ne_eqb, lt-ltb, le-ltb}
+use borrow.Author.Tests.{ne_eqb, lt-ltb, le-ltb}
 use Rattle.model.specs.Machine.{Machine}
 use Rattle.model.specs.WellFormed.{WellFormed}
 use Rattle.model.specs.Inference.{Slot}
 use Rattle.dryrun.specs.Run.{Counts, steps, most_contexts}
 use Rattle.dryrun.specs.Expression.{Expression}
-use Rattle.environments.specs.Kinds.{number_kind, argument_kind, right_kind, called_kind, left_kind}
+use Rattle.environments.specs.Kinds.{number_kind}
 use Rattle.environments.specs.Standing.{Cells, Frames, Frame, Stack, bottom, on_argument, on_called, on_right, on_number, on_left, Control, a_row, a_value, Standing}
 use Rattle.environments.specs.Weights.{weight, control_weight, frame_weight, frames_weight, point_weight, span, remaining}
 use Rattle.environments.proofs.Turns.{Below}

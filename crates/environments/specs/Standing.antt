@@ -1,5 +1,5 @@
 -- What the arrays of a run stand for: an expression under reduction contexts, its bound parameters in cells.
-use Rattle.std.specs.Prelude.{ℕ, zero, suc, ◌+◌, ◌≤◌, ◌<◌, Bool, true, false, cond, List, [], ◌∷◌, ◌≡◌, eqb, length, get_or}
+use Rattle.std.specs.Prelude.{ℕ, suc, ◌≤◌, ◌<◌, Bool, true, false, cond, List, [], ◌∷◌, ◌≡◌, eqb, length, get_or}
 use Rattle.model.specs.Machine.{Machine, term_at}
 use Rattle.model.specs.Inference.{ruling, Slot}
 use Rattle.model.specs.declared.Term.TheVariants.{Lam}

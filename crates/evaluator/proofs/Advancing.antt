@@ -1,12 +1,10 @@
 -- One move, by what is looked at.
-use Prim.Native.Nat.{ℕ, suc, ◌+◌, ◌-◌, ◌≤◌, ◌<◌}
-use native.Mathlib.Omega.{arith}
+use Prim.Native.Nat.{ℕ, ◌+◌, ◌-◌, ◌≤◌, ◌<◌}
 use mathlib.Core.Bool.{Bool, true, false}
 use mathlib.Core.Path.{◌≡◌, subst}
 use lib.ListN.{get_or}
 use Rattle.model.specs.declared.Term.{Term}
-use Rattle.dryrun.specs.Run.{most_steps}
-use Rattle.environments.specs.Kinds.{number_kind, called_kind, left_kind}
+use Rattle.environments.specs.Kinds.{called_kind, left_kind}
 use Rattle.environments.specs.Standing.{Cells, Frames, Standing}
 use Rattle.environments.proofs.Turns.{row_place, called_place, top_kind}
 use Rattle.moves.specs.Moves.{counts_of, TurnsRow, TurnsRound, Applies, Operates}

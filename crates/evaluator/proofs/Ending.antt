@@ -1,25 +1,22 @@
 -- What a run comes to at its end.
-use Prim.Native.Nat.{ℕ, ◌≤◌, ◌<◌}
-use native.Mathlib.Omega.{arith}
+use Prim.Native.Nat.{ℕ}
 use native.Mathlib.Decide.{ℕ_discrete}
-use mathlib.Core.Bool.{true, false, cond}
-use mathlib.Core.Path.{◌≡◌, refl, sym, ap, subst, ◌∙◌}
-use lib.Dec.{eqb}
+use mathlib.Core.Bool.{true}
+use mathlib.Core.Path.{◌≡◌, refl, subst}
 use borrow.Author.Tests.{eq-eqb, ne_eqb}
 use Rattle.model.specs.Machine.{Machine}
 use Rattle.model.specs.Inference.{ruling, Slot}
 use Rattle.dryrun.specs.Expression.{Expression}
 use Rattle.dryrun.specs.Transition.{Tagged}
-use Rattle.dryrun.specs.Run.{nothing_made, Outcome, ended, a_number, a_function, Runs}
+use Rattle.dryrun.specs.Run.{nothing_made, Runs}
 use Rattle.environments.specs.Kinds.{function_tag}
 use Rattle.environments.specs.Standing.{Cells, Frames, Standing}
 use Rattle.environments.proofs.Turns.{ends_with_number, ends_with_function}
 use Rattle.moves.specs.Moves.{Job, Stands, counts_of}
 use Rattle.moves.specs.declared.Point.{Point}
-use Rattle.evaluator.specs.declared.Answer.{Answer}
 use Rattle.evaluator.specs.declared.Answer.TheVariants.{Number, Function}
 use Rattle.evaluator.specs.declared.Ran.{Ran}
-use Rattle.evaluator.specs.Evaluation.{answered, outcome, answer_of, Over}
+use Rattle.evaluator.specs.Evaluation.{outcome, answer_of, Over}
 
 pub answers_function : (tag n : ℕ) → tag ≡ function_tag → Function ≡ answer_of tag n
 answers_function tag n h = rw (eq-eqb tag function_tag h) refl

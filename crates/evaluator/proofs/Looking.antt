@@ -1,15 +1,14 @@
 -- The row that a move looks at.
-use Prim.Native.Nat.{ℕ, ◌-◌, ◌≤◌, ◌<◌}
+use Prim.Native.Nat.{ℕ, ◌-◌, ◌<◌}
 use native.Mathlib.Omega.{arith}
 use mathlib.Core.Bool.{true, false, false≢true}
 use mathlib.Core.List.{List}
-use mathlib.Core.Path.{◌≡◌, refl, sym, ap, ◌∙◌}
-use lib.ListN.{length, get_or}
-use Rattle.model.specs.Machine.{Machine, term_in, term_at}
-use Rattle.model.specs.Inference.{Slot, row}
+use mathlib.Core.Path.{◌≡◌, sym, ap, ◌∙◌}
+use lib.ListN.{get_or}
+use Rattle.model.specs.Machine.{Machine, term_in}
+use Rattle.model.specs.Inference.{Slot}
 use Rattle.model.specs.declared.TermRow.{TermRow}
 use Rattle.dryrun.specs.Expression.{Expression}
-use Rattle.environments.specs.Kinds.{called_kind}
 use Rattle.environments.specs.Standing.{Cells, Frames}
 use Rattle.environments.proofs.Turns.{row_in_list, called_function}
 use Rattle.moves.specs.Moves.{Job, Stands}

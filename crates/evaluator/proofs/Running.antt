@@ -1,16 +1,15 @@
 -- The moves of a run, one after the other.
-use Prim.Native.Nat.{ℕ, suc, ◌-◌, ◌≤◌, ◌<◌}
+use Prim.Native.Nat.{ℕ, suc, ◌≤◌, ◌<◌}
 use native.Mathlib.Omega.{arith}
 use native.Mathlib.Decide.{ℕ_discrete}
 use mathlib.Core.Bool.{Bool, true, false, ◌&&◌, false≢true}
 use mathlib.Core.List.{List}
-use mathlib.Core.Path.{◌≡◌, refl, sym, ap, subst, ◌∙◌}
+use mathlib.Core.Path.{◌≡◌, refl, sym, ◌∙◌}
 use lib.Dec.{eqb}
 use lib.ListN.{length, get_or, replicate, length-replicate, get_or-replicate}
 use borrow.Author.Tests.{eq-eqb, eqb-true}
 use Rattle.model.specs.Machine.{Machine, term_in}
 use Rattle.model.specs.Inference.{ruling, Slot}
-use Rattle.model.specs.declared.Term.{Term}
 use Rattle.model.specs.declared.TermRow.{TermRow}
 use Rattle.dryrun.specs.Expression.{Expression}
 use Rattle.dryrun.specs.Transition.{Tagged}
@@ -23,7 +22,7 @@ use Rattle.moves.specs.declared.Turn.{Turn}
 use Rattle.moves.specs.declared.Turn.TheVariants.{On, Stop}
 use Rattle.evaluator.specs.declared.Answer.TheVariants.{Nothing}
 use Rattle.evaluator.specs.declared.Ran.{Ran}
-use Rattle.evaluator.specs.Evaluation.{outcome, Over, LooksAt, Underway, Advances, Begins, Begun, Evaluates}
+use Rattle.evaluator.specs.Evaluation.{Over, LooksAt, Underway, Advances, Begins, Begun, Evaluates}
 use Rattle.evaluator.proofs.Looking.{looked}
 use Rattle.evaluator.proofs.Ending.{ends_over}
 

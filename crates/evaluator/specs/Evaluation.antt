@@ -1,5 +1,5 @@
 -- What the moves of a run come to, one after the other.
-use Rattle.std.specs.Prelude.{ℕ, ◌-◌, ◌≤◌, ◌<◌, true, false, cond, List, ◌≡◌, eqb, length, get_or}
+use Rattle.std.specs.Prelude.{ℕ, ◌-◌, ◌<◌, true, false, cond, List, ◌≡◌, eqb, length, get_or}
 use Rattle.model.specs.Machine.{Machine, term_in, term_at}
 use Rattle.model.specs.Inference.{ruling, Slot, row}
 use Rattle.model.specs.declared.Term.{Term}

@@ -9,6 +9,7 @@ use prog.Routine.{Routine}
 use types.Logic.{Logic}
 use contract.Monad.{Fun, fact, fact_mono}
 use contract.Lifetimes.{Lfts}
+use denote.Ref.{Bor}
 use denote.MutBor.{MutBor}
 use Rattle.model.specs.Machine.{added, redeclared, taken_back}
 use Rattle.model.specs.Session.{add, redeclare, take_back}

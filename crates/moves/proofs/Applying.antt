@@ -1,21 +1,19 @@
 -- One law for each way through an application.
-use Prim.Native.Nat.{ℕ, zero, suc, ◌+◌, ◌-◌, ◌≤◌, ◌<◌}
+use Prim.Native.Nat.{ℕ, suc, ◌+◌, ◌-◌, ◌≤◌, ◌<◌}
 use native.Mathlib.Omega.{arith}
-use mathlib.Core.Bool.{true, false}
-use mathlib.Core.List.{List, [], ◌∷◌}
+use mathlib.Core.Bool.{false}
+use mathlib.Core.List.{List, []}
 use mathlib.Core.Path.{◌≡◌, refl, sym, ap, subst, ◌∙◌}
-use lib.ListN.{length, get_or, set}
-use Rattle.model.specs.Machine.{Machine, term_at, binds}
-use Rattle.model.specs.Inference.{Slot}
+use lib.ListN.{length, set}
+use Rattle.model.specs.Machine.{binds}
 use Rattle.model.specs.declared.Term.{Term}
 use Rattle.model.specs.declared.Term.TheVariants.{Lam, App, Op, Var, Num, Enc}
-use Rattle.dryrun.specs.Expression.{Expression}
-use Rattle.dryrun.specs.Run.{Counts, most_contexts, most_steps}
-use Rattle.environments.specs.Standing.{Cells, Frames, Standing}
+use Rattle.dryrun.specs.Run.{most_contexts, most_steps}
+use Rattle.environments.specs.Standing.{Cells, Standing}
 use Rattle.environments.specs.Weights.{point_weight}
 use Rattle.environments.proofs.Turns.{spent, called_function, applies_on}
 use Rattle.environments.proofs.Weights.{standing_light, step_remains}
-use Rattle.moves.specs.Moves.{cells_of, Celled, Applies, Comes, leads_on, stops, Stands, Job, counts_of}
+use Rattle.moves.specs.Moves.{cells_of, Celled, Applies, Comes, leads_on, stops, counts_of}
 use Rattle.moves.specs.declared.Point.{Point}
 use Rattle.moves.specs.declared.Turn.TheVariants.{On, Stop}
 use Rattle.moves.proofs.Arrays.{with_cell, cell_kept, cell_bound, cell_celled, put_cell}

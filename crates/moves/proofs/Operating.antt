@@ -1,20 +1,17 @@
 -- One law for each way through an operation.
-use Prim.Native.Nat.{ℕ, zero, suc, ◌+◌, ◌-◌, ◌≤◌, ◌<◌}
+use Prim.Native.Nat.{ℕ, suc, ◌+◌, ◌-◌, ◌≤◌, ◌<◌}
 use native.Mathlib.Omega.{arith}
-use mathlib.Core.Bool.{true, false}
-use mathlib.Core.Path.{◌≡◌, refl, sym, ap, subst, ◌∙◌}
+use mathlib.Core.Bool.{true}
+use mathlib.Core.Path.{◌≡◌}
 use lib.ListN.{get_or}
-use Rattle.model.specs.Machine.{Machine}
-use Rattle.model.specs.Inference.{Slot}
-use Rattle.dryrun.specs.Expression.{Expression}
 use Rattle.dryrun.specs.Transition.{calculated, result_tag}
 use Rattle.dryrun.specs.Run.{most_contexts, largest_number}
 use Rattle.environments.specs.Kinds.{left_kind}
-use Rattle.environments.specs.Standing.{Cells, Frames, Standing}
+use Rattle.environments.specs.Standing.{Frames, Standing}
 use Rattle.environments.specs.Weights.{point_weight}
 use Rattle.environments.proofs.Turns.{spent, operates_on, overflows_at}
 use Rattle.environments.proofs.Weights.{standing_light, step_remains}
-use Rattle.moves.specs.Moves.{Operates, Comes, leads_on, stops, Stands, Job, counts_of}
+use Rattle.moves.specs.Moves.{Operates, Comes, leads_on, stops, counts_of}
 use Rattle.moves.specs.declared.Point.{Point}
 use Rattle.moves.specs.declared.Turn.TheVariants.{On, Stop}
 use Rattle.moves.proofs.Tops.{top_stands}

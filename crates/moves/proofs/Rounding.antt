@@ -1,10 +1,10 @@
 -- A value takes its place in a frame that waits.
-use Prim.Native.Nat.{ℕ, zero, suc, ◌+◌, ◌-◌, ◌≤◌, ◌<◌}
+use Prim.Native.Nat.{ℕ, suc, ◌+◌, ◌-◌, ◌≤◌, ◌<◌}
 use native.Mathlib.Omega.{arith}
 use native.Mathlib.Decide.{ℕ_discrete}
-use mathlib.Core.Bool.{Bool, true, false, cond}
+use mathlib.Core.Bool.{Bool, true, false}
 use mathlib.Core.List.{List}
-use mathlib.Core.Path.{◌≡◌, refl, sym, ap, subst, ◌∙◌}
+use mathlib.Core.Path.{◌≡◌, refl, sym, subst, ◌∙◌}
 use lib.Dec.{eqb}
 use lib.ListN.{get_or, set}
 use borrow.Author.Tests.{eq-eqb, ne_eqb}
@@ -17,7 +17,7 @@ use Rattle.environments.specs.Standing.{Cells, Frames, Standing}
 use Rattle.environments.specs.Weights.{point_weight}
 use Rattle.environments.proofs.Turns.{Below, take_argument, take_number, take_right}
 use Rattle.environments.proofs.Weights.{turned_lighter, number_lighter, lighter_remains}
-use Rattle.moves.specs.Moves.{holding_kind, Framed, Job, Stands, Comes, leads_on, counts_of, left, TurnsRound, frames_of}
+use Rattle.moves.specs.Moves.{holding_kind, Framed, Job, Stands, Comes, leads_on, counts_of, TurnsRound, frames_of}
 use Rattle.moves.specs.declared.Point.{Point}
 use Rattle.moves.specs.declared.Turn.TheVariants.{On}
 use Rattle.moves.proofs.Arrays.{with_frame, Topped, frame_below, frame_topped, frame_framed, put_frame}

@@ -1,14 +1,14 @@
 -- One law for each way through a move at a row.
-use Prim.Native.Nat.{ℕ, zero, suc, ◌+◌, ◌≤◌, ◌<◌}
+use Prim.Native.Nat.{ℕ, suc, ◌+◌, ◌≤◌, ◌<◌}
 use native.Mathlib.Omega.{arith}
 use native.Mathlib.Numerals.{add-one}
 use mathlib.Core.Bool.{true, false}
 use mathlib.Core.List.{List}
-use mathlib.Core.Path.{◌≡◌, refl, sym, ap, subst, ◌∙◌}
+use mathlib.Core.Path.{◌≡◌, subst, ◌∙◌}
 use lib.ListN.{length, get_or, set}
 use Rattle.scheme.specs.Schemes.{words}
 use Rattle.model.specs.Machine.{Machine, term_at}
-use Rattle.model.specs.WellFormed.{WellFormed, TermStands}
+use Rattle.model.specs.WellFormed.{TermStands}
 use Rattle.model.specs.Inference.{Slot, row}
 use Rattle.model.specs.declared.Term.{Term}
 use Rattle.model.specs.declared.Term.TheVariants.{Lam, App, Op, Var, Num, Enc}

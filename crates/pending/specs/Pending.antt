@@ -3,7 +3,6 @@ use Rattle.std.specs.Prelude.{ℕ, ◌+◌, ◌<◌, ◌≤◌, List, ◌⊎◌,
 use Rattle.model.specs.Typing.{Ty}
 use Rattle.layout.specs.Layout.{nodes, row_type, row_qualifier, qualifiers_from}
 use Rattle.layout.specs.Kinds as Kinds
-use Rattle.layout.specs.Readings.{Constant}
 use Rattle.forest.specs.Forest.{Found, Linked}
 use Rattle.forest.specs.Pairs.{Notes, left_at, right_at, notes_of}
 use Rattle.graph.specs.Types.{Types, kind_at}

@@ -10,9 +10,9 @@ use lib.ListN.{get_or, set}
 use lib.Seq.{set-get_or, get_or-set_other}
 use lib.Dec.{ltb}
 use Rattle.layout.specs.Layout.{nodes}
-use Rattle.scheme.specs.Rule.{words_at, top_at, meet_at, under, Lattice}
+use Rattle.scheme.specs.Rule.{words_at, top_at, meet_at}
 use Rattle.scheme.proofs.Rule.{meet_is_left}
-use Rattle.forest.specs.Forest.{up, Forest, Linked, Reach, here, further, Found, Rooted, Hung, TwoRoots}
+use Rattle.forest.specs.Forest.{up, Forest, Linked, Found, Rooted, Hung, TwoRoots}
 use Rattle.forest.specs.Pairs.{PairsBelow, notes_of}
 use Rattle.forest.proofs.Links.{by_eq, up_same, up_other, linked-into, linked-outof, linked-joins, root_reaches, reach-same, shorter-into, shorter-outof}
 use Rattle.qualifiers.specs.Classes.{Qualifiers, bound_at, Classes, Untouched, Imposed, United, Class, UnitedAll, qualifiers_of}

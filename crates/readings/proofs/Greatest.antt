@@ -1,5 +1,5 @@
 -- The words of a solved program are the greatest, attained together, and its shapes are as document 01 says.
-use Prim.Native.Nat.{ℕ, zero, suc, ◌+◌, ◌-◌, ◌<◌, ◌≤◌}
+use Prim.Native.Nat.{ℕ, zero, suc, ◌+◌, ◌-◌, ◌<◌}
 use native.Mathlib.Omega.{arith}
 use mathlib.Core.List.{List}
 use mathlib.Core.Bool.{Bool, true, false, cond}
@@ -8,20 +8,20 @@ use lib.Dec.{ltb}
 use lib.ListN.{length}
 use borrow.Author.Tests.{lt-ltb, le-ltb}
 use Rattle.layout.specs.Layout.{row_type, row_qualifier, nodes}
-use Rattle.scheme.specs.Qualifier.{Qualifier, code, qualifier}
+use Rattle.scheme.specs.Qualifier.{code, qualifier}
 use Rattle.scheme.specs.Schemes.{words, below}
 use Rattle.scheme.specs.Rule.{under, Ruled}
 use Rattle.scheme.proofs.Qualifier.{code_below}
 use Rattle.scheme.proofs.Rule.{under_same}
 use Rattle.model.specs.Machine.{Machine, param_at}
 use Rattle.model.specs.WellFormed.{WellFormed}
-use Rattle.model.specs.Typing.{Ty, int, arrow, Assignment, Typing, meaning}
+use Rattle.model.specs.Typing.{Ty, int, arrow, Assignment}
 use Rattle.model.specs.Inference.{ruling, Slot, variable, param, row, Listed, slot_qualifier, type_of, IsInt, is_int, IsArrow, is_arrow, Shape, Types, ShapeSays, GreatestTyping}
 use Rattle.model.proofs.Weaker.{map_type, map_assignment}
 use Rattle.readings.specs.Nodes.{assignment, node_word, kind_shape, node_shape, Solution, Solved}
 use Rattle.scheme.proofs.Schemes.{sound_few}
 use Rattle.readings.proofs.Numbers.{coded, coded_same}
-use Rattle.readings.proofs.Typable.{node_type, type_node, row_type_node, node_qualifier, code_node, row_qualifier_node}
+use Rattle.readings.proofs.Typable.{type_node, row_type_node, code_node, row_qualifier_node}
 use Rattle.readings.proofs.Strengths.{whole_nodes, whole_types, whole_meets, whole_plain, whole_fits, nodes_constant, nodes_coded, whole_typing}
 
 -- The shape of a type is kept when its qualifiers are replaced.

@@ -1,5 +1,5 @@
 -- The lines T and P alone have a reading, since a type row names only rows below it; and with qualifiers ignored they have a typing together with row 0.
-use Prim.Native.Nat.{ℕ, zero, suc, ◌<◌, ◌≤◌}
+use Prim.Native.Nat.{ℕ, zero, suc, ◌<◌}
 use native.Mathlib.Omega.{arith}
 use mathlib.Core.Bool.{cond}
 use mathlib.Core.Path.{◌≡◌, refl, sym, subst, ◌∙◌}

@@ -4,7 +4,7 @@ use mathlib.Core.Bool.{true}
 use mathlib.Core.Path.{◌≡◌, refl}
 use lib.ListN.{length}
 use Rattle.scheme.specs.Schemes.{SchemeTable, words, below, highest_of, Sound}
-use Rattle.scheme.specs.Qualifier.{Qualifier, code, qualifier}
+use Rattle.scheme.specs.Qualifier.{code, qualifier}
 use Rattle.scheme.proofs.Qualifier.{qualifier_code, code_qualifier}
 use Rattle.scheme.proofs.Schemes.{below_code, highest_code_all}
 use Rattle.model.specs.Typing.{Rules}

@@ -1,9 +1,9 @@
 -- What the readings of the nodes say of the typings of document 01, at each strength.
-use Prim.Native.Nat.{ℕ, ◌+◌, ◌-◌, ◌<◌, ◌≤◌}
+use Prim.Native.Nat.{ℕ, ◌-◌, ◌<◌, ◌≤◌}
 use native.Mathlib.Omega.{arith}
 use mathlib.Core.Bool.{Bool, true, false, cond}
 use mathlib.Core.List.{List}
-use mathlib.Core.Path.{◌≡◌, refl, sym, ap, subst, ◌∙◌}
+use mathlib.Core.Path.{◌≡◌, refl, sym, subst, ◌∙◌}
 use lib.Dec.{ltb}
 use lib.ListN.{length}
 use Rattle.layout.specs.Readings.{Constant, Coded}
@@ -11,7 +11,7 @@ use Rattle.layout.specs.Layout.{row_qualifier}
 use Rattle.scheme.specs.Schemes.{words, below, highest_of, Sound}
 use Rattle.scheme.specs.Rule.{highest_at, under, Ruled}
 use Rattle.scheme.specs.Qualifier.{code, qualifier}
-use Rattle.scheme.proofs.Qualifier.{code_qualifier, code_below}
+use Rattle.scheme.proofs.Qualifier.{code_below}
 use Rattle.scheme.proofs.Schemes.{sound_few, highest_code}
 use Rattle.scheme.proofs.Rule.{under_same, under_codes}
 use Rattle.model.specs.Machine.{Machine, term_at}

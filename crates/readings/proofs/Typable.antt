@@ -2,16 +2,15 @@
 use Prim.Native.Nat.{ℕ, ◌+◌, ◌-◌, ◌<◌, ◌≤◌}
 use native.Mathlib.Omega.{arith}
 use mathlib.Core.Bool.{Bool, true, false, cond}
-use mathlib.Core.Path.{◌≡◌, refl, sym, ap, subst, ◌∙◌}
+use mathlib.Core.Path.{◌≡◌, refl, sym, ◌∙◌}
 use lib.Dec.{ltb}
 use lib.ListN.{length}
 use borrow.Author.Tests.{lt-ltb, le-ltb, ltb-true}
 use Rattle.layout.specs.Layout.{row_type, row_qualifier}
 use Rattle.scheme.specs.Schemes.{words}
-use Rattle.scheme.specs.Operation.{keeps}
 use Rattle.model.specs.Machine.{Machine, type_at, param_at, term_at}
 use Rattle.model.specs.WellFormed.{WellFormed, TypeStands, TermStands}
-use Rattle.model.specs.Typing.{Ty, int, arrow, Rules, Assignment, Follows, FunctionsPlain, Typing, meaning, TypeAgrees, ParamAgrees, RowMeets}
+use Rattle.model.specs.Typing.{Ty, Rules, Assignment, Follows, FunctionsPlain, Typing, meaning, TypeAgrees, RowMeets}
 use Rattle.model.specs.declared.TypeForm.{TypeForm}
 use Rattle.model.specs.declared.TypeForm.TheVariants.{Int, Any, Arrow}
 use Rattle.model.specs.declared.Term.{Term}

@@ -1,5 +1,5 @@
 -- Typings as readings of numbered nodes, over numbers for qualifiers.
-use Rattle.std.specs.Prelude.{ℕ, ◌+◌, ◌<◌, ◌≤◌, Bool, true, false, cond, ◌≡◌, List, length, get_or}
+use Rattle.std.specs.Prelude.{ℕ, ◌+◌, ◌<◌, ◌≤◌, true, cond, ◌≡◌, List, length, get_or}
 use Rattle.scheme.specs.Schemes.{words}
 use Rattle.scheme.specs.Rule.{highest_at, under}
 use Rattle.scheme.specs.Operation.{keeps}

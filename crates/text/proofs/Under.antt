@@ -9,7 +9,7 @@ use Rattle.scheme.specs.Schemes.{SchemeTable}
 use Rattle.scheme.specs.Six.{six_table}
 use Rattle.model.specs.Machine.{Change}
 use Rattle.model.specs.SchemeFile.{opened}
-use Rattle.model.specs.Text.{Returns, ReturnsUnder, short, refused_file, accepted_file}
+use Rattle.model.specs.Text.{Returns, ReturnsUnder, refused_file, accepted_file}
 use Rattle.model.proofs.Opened.{opened_sound}
 use Rattle.model.proofs.Files.{six_file, six_from_file}
 use Rattle.text.proofs.Front.{returns_front}

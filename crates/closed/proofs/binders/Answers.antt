@@ -1,8 +1,8 @@
 -- At each turn the set, with what the rows from i on bind, is what all rows bind.
-use Prim.Native.Nat.{◌≤◌, ◌<◌, ◌-◌}
+use Prim.Native.Nat.{◌≤◌, ◌<◌}
 use mathlib.Core.Path.{subst}
 use borrow.Author.Rules.{rules}
-use Rattle.closed.proofs.Gathering.{Gathered, gathered_none, gathered_more, gathered_all}
+use Rattle.closed.proofs.Gathering.{gathered_none, gathered_more, gathered_all}
 use Rattle.closed.proofs.binders.Goals as goal
 
 pub loop-i-init : goal.loop-i-init

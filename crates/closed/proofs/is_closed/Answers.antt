@@ -1,5 +1,4 @@
 -- Each part of the condition is decided by one call.
-use borrow.Author.Rules.{rules}
 use Rattle.closed.proofs.Answers.{no_rows, not_all_bound, tree_decides}
 use Rattle.closed.proofs.is_closed.Goals as goal
 

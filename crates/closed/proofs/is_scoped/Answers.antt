@@ -6,11 +6,10 @@ use mathlib.Core.List.{[], ◌∷◌}
 use mathlib.Core.Path.{ap}
 use mathlib.Core.Path.{refl, sym}
 use lib.ListN.{replicate}
-use borrow.Author.Rules.{rules}
 use Rattle.checks.specs.Children.{listed}
 use Rattle.checks.proofs.Marking.{repeated}
 use Rattle.table.specs.Lists.{lists}
-use Rattle.closed.proofs.Walk.{Walked, walk_starts, walk_ends, row_within, only_within, first_within, second_within, row_not_reached, var_not_found, row_turned}
+use Rattle.closed.proofs.Walk.{walk_starts, walk_ends, row_within, only_within, first_within, second_within, row_not_reached, var_not_found, row_turned}
 use Rattle.closed.proofs.is_scoped.Goals as goal
 
 pub loop-i-init : goal.loop-i-init

@@ -1,5 +1,4 @@
 -- A VAR names one parameter; of any other term nothing is asked.
-use borrow.Author.Rules.{rules}
 use Rattle.closed.proofs.Gathering.{reads_var}
 use Rattle.closed.proofs.reads_within.Goals as goal
 

@@ -1,6 +1,5 @@
 -- A LAM binds one parameter, and no other term binds any.
 use mathlib.Core.Path.{ap}
-use borrow.Author.Rules.{rules}
 use Rattle.model.specs.Machine.{binds}
 use Rattle.closed.proofs.Gathering.{with_lam, with_none}
 use Rattle.closed.proofs.with_binder.Goals as goal

@@ -2,7 +2,6 @@ use native.Mathlib.Omega.{arith}
 use mathlib.Core.Path.{refl}
 use borrow.Author.Tests.{not-true, not-false}
 use Rattle.evaluator.proofs.Advancing.{made_within, own_place, held_place, kind_known, by_row, by_round, by_call, by_operation}
-use borrow.Author.Rules.{rules}
 use Rattle.evaluator.proofs.advance.Goals as goal
 
 pub turn_row-requires : goal.turn_row-requires

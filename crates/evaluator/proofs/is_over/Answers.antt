@@ -1,5 +1,4 @@
 use mathlib.Core.Path.{refl}
-use borrow.Author.Rules.{rules}
 use Rattle.evaluator.proofs.is_over.Goals as goal
 
 pub returns-then-p : goal.returns-then-p

@@ -1,7 +1,6 @@
 use native.Mathlib.Omega.{arith}
 use borrow.Author.Tests.{not-true, not-false}
 use Rattle.evaluator.proofs.Looking.{looks_own, looks_nowhere, looks_top}
-use borrow.Author.Rules.{rules}
 use Rattle.evaluator.proofs.looked_at.Goals as goal
 
 pub returns-then-not-p : goal.returns-then-not-p

@@ -1,9 +1,7 @@
-use borrow.Author.Rules.{rules}
 use mathlib.Core.Path.{sym, ◌∙◌}
 use native.Mathlib.Omega.{arith}
-use borrow.Author.Tests.{not-true, not-false}
-use Rattle.moves.specs.Moves.{cells_of, frames_of, left}
-use Rattle.evaluator.proofs.Running.{Continues, none_celled, begins_continues, underway, not_over, continues_on, continues_stop, continues_over}
+use Rattle.moves.specs.Moves.{frames_of}
+use Rattle.evaluator.proofs.Running.{none_celled, begins_continues, underway, not_over, continues_on, continues_stop, continues_over}
 use Rattle.evaluator.proofs.run.Goals as goal
 
 pub loop-terms-init : goal.loop-terms-init

@@ -1,9 +1,5 @@
-use borrow.Author.Rules.{rules}
-use mathlib.Core.Path.{sym, ◌∙◌}
-use native.Mathlib.Omega.{arith}
-use borrow.Author.Tests.{not-true, not-false}
 use Rattle.moves.specs.Moves.{cells_of, frames_of, left}
-use Rattle.evaluator.proofs.Running.{Continues, none_celled, begins_continues, underway, not_over, continues_on, continues_stop, continues_over}
+use Rattle.evaluator.proofs.Running.{Continues}
 use Rattle.evaluator.proofs.run.Given as goal
 
 abbrev pub invariant-loop-terms : goal.invariant-loop-terms

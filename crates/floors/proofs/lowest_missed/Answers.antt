@@ -1,11 +1,8 @@
 -- The loop has found every floor met below p.
-use Prim.Native.Nat.{ℕ, ◌-◌, ◌≤◌, ◌<◌}
 use native.Mathlib.Omega.{arith}
 use mathlib.Core.Bool.{false≢true}
 use mathlib.Core.Path.{sym, ◌∙◌}
 use borrow.Author.Count.{below_more}
-use borrow.Author.Rules.{rules}
-use Rattle.floors.specs.Lowest.{Holds}
 use Rattle.floors.proofs.lowest_missed.Goals as goal
 
 pub loop-p-init : goal.loop-p-init

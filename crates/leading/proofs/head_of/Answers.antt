@@ -1,6 +1,5 @@
 -- Each form of a term gives its own head.
 use mathlib.Core.Path.{sym, ap}
-use borrow.Author.Rules.{rules}
 use Rattle.leading.specs.Leading.{head_of}
 use Rattle.leading.proofs.head_of.Goals as goal
 

@@ -1,11 +1,8 @@
 -- The numbers are put one LAM after the other; what is known where the loop turns is `Underway`.
 use Prim.Native.Nat.{◌-◌}
-use native.Mathlib.Omega.{arith}
 use lib.ListN.{length}
-use borrow.Author.Rules.{rules}
 use Rattle.moves.specs.Moves.{frames_of}
-use Rattle.leading.proofs.Going.{past_any}
-use Rattle.leading.proofs.Underway.{Underway, begins, past_last, at-end, stands, at_arrow, goes_on}
+use Rattle.leading.proofs.Underway.{Underway}
 use Rattle.leading.proofs.lead.Given as goal
 
 abbrev pub invariant-loop-j : goal.invariant-loop-j

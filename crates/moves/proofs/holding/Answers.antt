@@ -1,5 +1,4 @@
 use Rattle.moves.proofs.Rounding.{holds_called, holds_other}
-use borrow.Author.Rules.{rules}
 use Rattle.moves.proofs.holding.Goals as goal
 
 pub returns-then-waiting-eq-NUMBER : goal.returns-then-waiting-eq-NUMBER

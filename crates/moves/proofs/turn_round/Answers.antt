@@ -1,7 +1,6 @@
 use native.Mathlib.Omega.{arith}
 use Rattle.moves.specs.Moves.{frames_of}
 use Rattle.moves.proofs.Rounding.{turns_round}
-use borrow.Author.Rules.{rules}
 use Rattle.moves.proofs.turn_round.Goals as goal
 
 pub returns : goal.returns

@@ -1,6 +1,5 @@
 use native.Mathlib.Omega.{arith}
 use Rattle.moves.proofs.Rows.{on_lam, on_num, on_enc, on_var, deep_app, deep_op, no_op, put_app, put_op}
-use borrow.Author.Rules.{rules}
 use Rattle.moves.proofs.turn_row.Goals as goal
 
 pub returns-then-at-gt-CONTEXTS : goal.returns-then-at-gt-CONTEXTS

@@ -1,5 +1,4 @@
 -- `occurs::finite_type` and `occurs::finite_qualified`: what the marks say where the search comes to a node and where it leaves it.
-use Prim.Native.Nat.{◌<◌}
 use native.Mathlib.Omega.{arith}
 use mathlib.Core.Bool.{true, not}
 use mathlib.Core.Logic.{inl, inr}
@@ -8,7 +7,7 @@ use lib.ListN.{set}
 use Rattle.graph.specs.Types.{types_of}
 use Rattle.occurs.specs.Marks.{Walked}
 use Rattle.occurs.proofs.Marks.{kept_trans}
-use Rattle.occurs.proofs.Search.{walked_none, came_walked, came_known, no_arrow, marked_already, contains_itself, way_root, new_arrow, walked_root, entered, fewer_unseen, way_on, finished}
+use Rattle.occurs.proofs.Search.{came_walked, came_known, no_arrow, marked_already, contains_itself, way_root, new_arrow, walked_root, entered, fewer_unseen, way_on, finished}
 use Rattle.occurs.proofs.+finite_qualified_finite_type.Goals.{finite_type-then-not-known_finite+else-not-finite_qualified, finite_type-else-not-known_finite, finite_type-then-not-known_finite-2+else-not-finite_qualified-2, finite_type-else-not-known_finite-2}
 use Rattle.occurs.proofs.+finite_qualified_finite_type.Goals as goal
 
@@ -45,10 +44,10 @@ finite_type-finite_qualified-requires-then-not-known_finite-2 t c =
     let given = c.requires.type_classes in
     let new = given.1.1 in
     let first : Walked (types_of c.args.typeparent.now c.args.kind.now) c.args.kids.now (set c.args.marks.now c.args.root 1) c.if-not-known_finite.marks c.part-argument.result true =
-      elim c.if-not-known_finite.branch [
-        finite_type-then-not-known_finite+else-not-finite_qualified w ↦ rw w.marks-is (came_walked w.finite_qualified.ensures (ap not w.if-not-finite_qualified.false))
-        | finite_type-else-not-known_finite w ↦ rw w.marks-is (came_known c.known_finite.ensures (ap not w.if-not-known_finite.false) (entered new c.requires.way).sound)
-      ] in
+    elim c.if-not-known_finite.branch [
+      | finite_type-then-not-known_finite+else-not-finite_qualified w ↦ rw w.marks-is (came_walked w.finite_qualified.ensures (ap not w.if-not-finite_qualified.false))
+      | finite_type-else-not-known_finite w ↦ rw w.marks-is (came_known c.known_finite.ensures (ap not w.if-not-known_finite.false) (entered new c.requires.way).sound)
+    ] in
     let kept = first.kept refl in
     let part = c.part-result.ensures in
     let way = way_on new c.requires.way kept _ (inr part.0) in
@@ -59,13 +58,13 @@ finite_type-returns t c =
     let given = c.requires.type_classes in
     let new = given.1.1 in
     let first : Walked (types_of c.args.typeparent.now c.args.kind.now) c.args.kids.now (set c.args.marks.now c.args.root 1) c.if-not-known_finite.marks c.part-argument.result true =
-      elim c.if-not-known_finite.branch [
-        finite_type-then-not-known_finite+else-not-finite_qualified w ↦ rw w.marks-is (came_walked w.finite_qualified.ensures (ap not w.if-not-finite_qualified.false))
-        | finite_type-else-not-known_finite w ↦ rw w.marks-is (came_known c.known_finite.ensures (ap not w.if-not-known_finite.false) (entered new c.requires.way).sound)
-      ] in
+    elim c.if-not-known_finite.branch [
+      | finite_type-then-not-known_finite+else-not-finite_qualified w ↦ rw w.marks-is (came_walked w.finite_qualified.ensures (ap not w.if-not-finite_qualified.false))
+      | finite_type-else-not-known_finite w ↦ rw w.marks-is (came_known c.known_finite.ensures (ap not w.if-not-known_finite.false) (entered new c.requires.way).sound)
+    ] in
     let second : Walked (types_of c.args.typeparent.now c.args.kind.now) c.args.kids.now c.if-not-known_finite.marks c.if-not-known_finite-2.marks c.part-result.result true =
-      elim c.if-not-known_finite-2.branch [
-        finite_type-then-not-known_finite-2+else-not-finite_qualified-2 w ↦ rw w.marks-is (came_walked w.finite_qualified-then-not-known_finite-2.ensures (ap not w.if-not-finite_qualified-2.false))
-        | finite_type-else-not-known_finite-2 w ↦ rw w.marks-is (came_known c.known_finite-2.ensures (ap not w.if-not-known_finite-2.false) (first.kept refl).sound)
-      ] in
+    elim c.if-not-known_finite-2.branch [
+      | finite_type-then-not-known_finite-2+else-not-finite_qualified-2 w ↦ rw w.marks-is (came_walked w.finite_qualified-then-not-known_finite-2.ensures (ap not w.if-not-finite_qualified-2.false))
+      | finite_type-else-not-known_finite-2 w ↦ rw w.marks-is (came_known c.known_finite-2.ensures (ap not w.if-not-known_finite-2.false) (first.kept refl).sound)
+    ] in
     finished new c.requires.way (kept_trans (first.kept refl) (second.kept refl)) c.part-argument.ensures.0 c.part-result.ensures.0 (first.finite refl) (second.finite refl)

@@ -1,6 +1,5 @@
 -- `occurs::finite_next`: by the kind, and by whether both parts are below the node.
 use native.Mathlib.Omega.{arith}
-use borrow.Author.Rules.{rules}
 use Rattle.occurs.proofs.Readings.{descriptor}
 use Rattle.occurs.proofs.Marks.{between_way}
 use Rattle.occurs.proofs.Search.{next_no_arrow, next_arrow}

@@ -1,5 +1,4 @@
 -- `occurs::known_finite`: by the kind of the root, and by its mark.
-use borrow.Author.Rules.{rules}
 use Rattle.occurs.proofs.Search.{finite_no_arrow, known_marked}
 use Rattle.occurs.proofs.known_finite.Goals as goal
 

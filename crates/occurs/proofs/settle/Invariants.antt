@@ -1,8 +1,6 @@
 -- `occurs::settle`: the invariant is what Settling says of the nodes passed.
 use Prim.Native.Nat.{◌-◌}
-use native.Mathlib.Omega.{arith}
-use Rattle.layout.specs.Layout.{nodes}
-use Rattle.occurs.proofs.Settling.{Settling, settling_none, settling_more, settled}
+use Rattle.occurs.proofs.Settling.{Settling}
 use Rattle.occurs.proofs.settle.Given as goal
 
 abbrev pub invariant-loop-node : goal.invariant-loop-node

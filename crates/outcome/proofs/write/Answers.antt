@@ -1,6 +1,5 @@
 -- The result, and the counts behind it.
 use native.Mathlib.Omega.{arith}
-use borrow.Author.Rules.{rules}
 use Rattle.outcome.proofs.Lines.{counts_room, ran_front}
 use Rattle.outcome.proofs.write.Goals as goal
 

@@ -1,14 +1,10 @@
 -- `look_through`: the invariant says what the first j pairs came to; each turn is one of three laws, by the kind of the pair's root.
-use Prim.Native.Nat.{◌-◌}
 use native.Mathlib.Omega.{arith}
 use borrow.Author.Tests.{lt-ltb}
 use mathlib.Core.Path.{◌≡◌}
 use Rattle.layout.specs.Layout.{nodes}
-use Rattle.graph.specs.Types.{types_of}
-use Rattle.qualifiers.specs.Classes.{qualifiers_of}
 use Rattle.qualifiers.proofs.Uniting.{no_class, class_node}
-use Rattle.pending.specs.Pending.{pending_of}
-use Rattle.pending.proofs.Sweeping.{Sweeping, sweeping_none, pair_nodes, marks_from, sweeping_kept, sweeping_dropped, sweeping_plain, sweeping_apart}
+use Rattle.pending.proofs.Sweeping.{sweeping_none, pair_nodes, marks_from, sweeping_kept, sweeping_dropped, sweeping_plain, sweeping_apart}
 use Rattle.pending.proofs.look_through.Goals as goal
 
 pub loop-j-init : goal.loop-j-init

@@ -1,5 +1,4 @@
 -- Only a term row's own pair returns before the mark.
-use borrow.Author.Rules.{rules}
 use native.Mathlib.Omega.{arith}
 use mathlib.Core.Logic.{inl, inr}
 use mathlib.Core.Path.{refl}

@@ -2,7 +2,6 @@
 use native.Mathlib.Omega.{arith}
 use mathlib.Core.Path.{◌∙◌}
 use Rattle.qualifiers.proofs.Uniting.{join_clash, join_rand, join_meets}
-use borrow.Author.Rules.{rules}
 use Rattle.qualifiers.proofs.join.Goals as goal
 
 pub returns-then-high-words : goal.returns-then-high-words

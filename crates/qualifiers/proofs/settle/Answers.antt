@@ -1,11 +1,5 @@
 -- The invariant: where the words hold what the greatest reading gives them, all nodes before x do.
-use Prim.Native.Nat.{ℕ, ◌≤◌, ◌-◌}
 use native.Mathlib.Omega.{arith}
-use mathlib.Core.List.{List}
-use mathlib.Core.Path.{◌≡◌}
-use Rattle.layout.specs.Layout.{nodes}
-use Rattle.scheme.specs.Rule.{words_at}
-use Rattle.qualifiers.specs.Classes.{Classes, Within, Settled, qualifiers_of}
 use Rattle.qualifiers.proofs.Readings.{settled_node, settled_rest, settled_all}
 use Rattle.qualifiers.proofs.settle.Goals as goal
 

@@ -1,11 +1,7 @@
 -- The invariant: the words before c hold themselves, which is what the greatest reading gives them.
 use Prim.Native.Nat.{ℕ, ◌≤◌, ◌-◌}
-use native.Mathlib.Omega.{arith}
 use mathlib.Core.List.{List}
-use mathlib.Core.Path.{◌≡◌}
-use Rattle.scheme.specs.Rule.{words_at}
 use Rattle.qualifiers.specs.Classes.{Classes, Within, Settled, qualifiers_of}
-use Rattle.qualifiers.proofs.Readings.{settled_none, settled_constant}
 use Rattle.qualifiers.proofs.settle_words.Given as goal
 
 abbrev pub invariant-loop-c : goal.invariant-loop-c

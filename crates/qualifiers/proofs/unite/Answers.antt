@@ -1,7 +1,6 @@
 -- What is shown of the roots holds of the nodes, which every reading gives what their roots have.
 use Prim.Native.Nat.{◌<◌}
 use native.Mathlib.Omega.{arith}
-use borrow.Author.Rules.{rules}
 use Rattle.qualifiers.proofs.Uniting.{shortened, roots_rising, roots_falling, unite_already, unite_rising, unite_falling}
 use Rattle.qualifiers.proofs.unite.Goals as goal
 
@@ -14,12 +13,12 @@ returns-then-a-b c =
     record { fact_1 = m.0; fact_2 = m.1 }
 
 pub join-requires : goal.join-requires
-join-requires c = 
+join-requires c =
     let m = roots_rising (c.requires.fact_1, c.requires.fact_2) c.root-a.ensures c.root-b.ensures c.if-a-b-2.true in
     record { fact_1 = m.0; fact_2 = m.1 }
 
 pub join-requires-else-a-b-2 : goal.join-requires-else-a-b-2
-join-requires-else-a-b-2 c = 
+join-requires-else-a-b-2 c =
     let less : c.root-b.result < c.root-a.result = omega arith in
     let m = roots_falling (c.requires.fact_1, c.requires.fact_2) c.root-a.ensures c.root-b.ensures less in
     record { fact_1 = m.0; fact_2 = m.1 }

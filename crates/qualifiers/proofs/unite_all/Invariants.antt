@@ -1,12 +1,7 @@
 -- The invariant: the pairs before i were made one.
 use Prim.Native.Nat.{◌≤◌, ◌-◌}
-use native.Mathlib.Omega.{arith}
-use borrow.Author.Tests.{lt-ltb}
 use mathlib.Core.Bool.{true}
-use mathlib.Core.Path.{◌≡◌}
 use Rattle.forest.specs.Pairs.{notes_of}
-use Rattle.layout.specs.Layout.{nodes}
-use Rattle.qualifiers.proofs.Uniting.{no_class, class_node, all_none, all_more, all_clash}
 use Rattle.qualifiers.specs.Classes.{UnitedAll, qualifiers_of}
 use Rattle.qualifiers.proofs.unite_all.Given as goal
 

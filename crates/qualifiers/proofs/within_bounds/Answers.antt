@@ -1,12 +1,10 @@
 -- The invariant: the constants before c are at or below their bounds.
-use Prim.Native.Nat.{ℕ, ◌<◌, ◌≤◌, ◌-◌}
+use Prim.Native.Nat.{ℕ}
 use native.Mathlib.Omega.{arith}
 use borrow.Author.Count.{below_none, below_more}
-use borrow.Author.Tests.{not-true, not-false}
 use mathlib.Core.Bool.{true}
 use mathlib.Core.Path.{◌≡◌, sym, subst, ◌∙◌}
 use Rattle.scheme.specs.Rule.{under}
-use Rattle.qualifiers.specs.Classes.{bound_at}
 use Rattle.qualifiers.proofs.Bounds.{tested_all, tested_one}
 use Rattle.qualifiers.proofs.within_bounds.Goals as goal
 

@@ -1,13 +1,9 @@
 -- The invariant: the constants before c are at or below their bounds.
 use Prim.Native.Nat.{ℕ, ◌<◌, ◌≤◌, ◌-◌}
-use native.Mathlib.Omega.{arith}
-use borrow.Author.Count.{below_none, below_more}
-use borrow.Author.Tests.{not-true, not-false}
 use mathlib.Core.Bool.{true}
-use mathlib.Core.Path.{◌≡◌, sym, subst, ◌∙◌}
+use mathlib.Core.Path.{◌≡◌}
 use Rattle.scheme.specs.Rule.{under}
 use Rattle.qualifiers.specs.Classes.{bound_at}
-use Rattle.qualifiers.proofs.Bounds.{tested_all, tested_one}
 use Rattle.qualifiers.proofs.within_bounds.Given as goal
 
 abbrev pub invariant-loop-c : goal.invariant-loop-c

@@ -34,7 +34,7 @@ pub returns-then-not-now : goal.returns-then-not-now
 returns-then-not-now c = search (end_bound, end_fits, rules)
 
 pub overflow_add-from : goal.overflow_add-from
-overflow_add-from c = search (end_fits, c.WELL_FORMED, c.shared_slice_known-1, c.shared_slice_known-1.given, c.loop-from-test.true, c.line_end-to.ensures)
+overflow_add-from c = search (end_fits, c.well_formed, c.loop-from-test.true, c.line_end-to.ensures)
 
 pub loop-from-smaller : goal.loop-from-smaller
 loop-from-smaller c = search (end_bound, end_fits, rules)

@@ -7,5 +7,5 @@ use Rattle.session.proofs.reply.Goals as goal
 pub slice_bounds-answer-end : goal.slice_bounds-answer-end
 slice_bounds-answer-end c = simp length-take (omega (arith, c.requires.kept))
 
-pub slice_bounds-write-end : goal.slice_bounds-write-end
-slice_bounds-write-end c = simp length-take (omega (arith, c.answer-turn.ensures.fits))
+pub slice_bounds-written-end : goal.slice_bounds-written-end
+slice_bounds-written-end c = simp length-take (omega (arith, c.answer-turn.ensures.fits))

@@ -2,7 +2,6 @@
 use native.Mathlib.Omega.{arith}
 use mathlib.Core.Path.{refl}
 use Rattle.setup.proofs.Writing.{only_none}
-use borrow.Author.Rules.{rules}
 use Rattle.setup.proofs.describe_form.Goals as goal
 
 pub write-requires : goal.write-requires

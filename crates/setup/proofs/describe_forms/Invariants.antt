@@ -1,14 +1,9 @@
 -- `setup::describe_forms`: the descriptors of the rows below x are written, and their kinds noted.
-use mathlib.Core.Path.{◌≡◌, refl}
 use Prim.Native.Nat.{◌-◌, ◌≤◌}
-use native.Mathlib.Omega.{arith}
-use borrow.Author.Count.{below_none}
 use Rattle.graph.specs.Types.{Parts}
 use Rattle.model.specs.Machine.{form_in}
 use Rattle.setup.specs.Started.{form_kind}
 use Rattle.setup.specs.Passes.{FormsDescribed, FormsLeft, FirstHold}
-use Rattle.setup.proofs.Descriptors.{forms_more, forms_left_more}
-use Rattle.setup.proofs.Starting.{hold_none, hold_more, kinds_hold}
 use Rattle.setup.proofs.describe_forms.Given as goal
 
 abbrev pub invariant-loop-x : goal.invariant-loop-x

@@ -2,7 +2,6 @@
 use native.Mathlib.Omega.{arith}
 use mathlib.Core.Path.{refl}
 use Rattle.setup.proofs.Writing.{only_none}
-use borrow.Author.Rules.{rules}
 use Rattle.setup.proofs.describe_term.Goals as goal
 
 pub bounds-qualifiers-p : goal.bounds-qualifiers-p

@@ -1,11 +1,8 @@
 -- `setup::first_kinds`: the places below x hold what the array holds there.
-use mathlib.Core.Path.{◌≡◌, refl}
 use Prim.Native.Nat.{◌-◌, ◌≤◌}
-use native.Mathlib.Omega.{arith}
 use lib.ListN.{get_or}
 use Rattle.layout.specs.Layout.{nodes}
 use Rattle.setup.specs.Passes.{FirstHold}
-use Rattle.setup.proofs.Starting.{hold_none, hold_more}
 use Rattle.setup.proofs.first_kinds.Given as goal
 
 abbrev pub invariant-loop-x : goal.invariant-loop-x

@@ -1,5 +1,4 @@
 -- `setup::form_kind`: one case for each form.
-use borrow.Author.Rules.{rules}
 use Rattle.setup.proofs.form_kind.Goals as goal
 
 pub returns-in-Arrow : goal.returns-in-Arrow

@@ -1,10 +1,7 @@
 -- `setup::note_params`: the nodes of the parameters below p are noted.
-use mathlib.Core.Path.{◌≡◌, refl}
 use Prim.Native.Nat.{◌-◌, ◌≤◌}
-use native.Mathlib.Omega.{arith}
 use Rattle.model.specs.Machine.{param_in}
 use Rattle.setup.specs.Passes.{FirstHold}
-use Rattle.setup.proofs.Starting.{hold_none, hold_more, params_hold}
 use Rattle.setup.proofs.note_params.Given as goal
 
 abbrev pub invariant-loop-p : goal.invariant-loop-p

@@ -1,10 +1,7 @@
 -- `setup::self_rooted`: the nodes below x are roots.
-use mathlib.Core.Path.{◌≡◌}
 use Prim.Native.Nat.{◌-◌, ◌≤◌}
-use native.Mathlib.Omega.{arith}
 use Rattle.layout.specs.Layout.{nodes}
 use Rattle.setup.specs.Passes.{SelfRooted}
-use Rattle.setup.proofs.Starting.{rooted_none, rooted_more}
 use Rattle.setup.proofs.self_rooted.Given as goal
 
 abbrev pub invariant-loop-x : goal.invariant-loop-x

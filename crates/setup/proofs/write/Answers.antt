@@ -1,6 +1,5 @@
 -- `setup::write`: four stores within the list.
 use Rattle.setup.proofs.Writing.{written}
-use borrow.Author.Rules.{rules}
 use Rattle.setup.proofs.write.Goals as goal
 
 pub returns : goal.returns

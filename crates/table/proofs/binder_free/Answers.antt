@@ -1,6 +1,5 @@
 -- A LAM binds one parameter, and no other term binds any.
 use mathlib.Core.Path.{ap}
-use borrow.Author.Rules.{rules}
 use Rattle.model.specs.Machine.{binds}
 use Rattle.checks.proofs.Tests.{one_untaken}
 use Rattle.table.proofs.binder_free.Goals as goal

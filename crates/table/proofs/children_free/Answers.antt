@@ -1,6 +1,5 @@
 -- Each way returns the check's value at the children that the row has.
 use mathlib.Core.Path.{sym, ap, ◌∙◌}
-use borrow.Author.Rules.{rules}
 use Rattle.checks.specs.Children.{listed}
 use Rattle.checks.proofs.Tests.{none_free, one_free, same_not_free, first_not_free, second_free}
 use Rattle.table.proofs.children_free.Goals as goal

@@ -1,9 +1,5 @@
 -- What is asked of all rows is, at each turn, what the rows from i on say.
-use Prim.Native.Nat.{◌≤◌, ◌-◌}
-use mathlib.Core.Path.{◌≡◌}
-use lib.ListN.{take, drop}
 use borrow.Author.Rules.{rules}
-use Rattle.model.specs.Lists.{any_of}
 use Rattle.checks.specs.Sought.{named_by}
 use Rattle.table.proofs.Counts.{counted}
 use Rattle.table.proofs.Scan.{scan_found, scan_passed, scan_over}

@@ -2,11 +2,8 @@
 use Prim.Native.Nat.{◌≤◌, ◌-◌}
 use mathlib.Core.Path.{◌≡◌}
 use lib.ListN.{take, drop}
-use borrow.Author.Rules.{rules}
 use Rattle.model.specs.Lists.{any_of}
 use Rattle.checks.specs.Sought.{named_by}
-use Rattle.table.proofs.Counts.{counted}
-use Rattle.table.proofs.Scan.{scan_found, scan_passed, scan_over}
 use Rattle.table.proofs.some_row.Given as goal
 
 abbrev pub invariant-loop-i : goal.invariant-loop-i

@@ -12,10 +12,10 @@ use Rattle.test_table_export.proofs.Turns.{part_whole, machine_starts, numbers_s
 use Rattle.test_table_export.proofs.run.Given as goal
 
 abbrev pub invariant-loop-i : goal.invariant-loop-i
-invariant-loop-i l = (l.i ≤ l.initial.numbers)
-    × (length l.numbers ≡ length l.calls)
-    × (machine_after (lists l.table) (calls_from l.script l.i (l.initial.numbers - l.i)) ≡ machine_after (fresh_machine six_table) (calls_from l.script 0 l.initial.numbers))
-    × (sets l.numbers l.i (numbers_of (lists l.table) (calls_from l.script l.i (l.initial.numbers - l.i))) ≡ sets l.calls 0 (numbers_of (fresh_machine six_table) (calls_from l.script 0 l.initial.numbers)))
+invariant-loop-i l = (l.i ≤ l.calls)
+    × (length l.numbers ≡ length l.initial.numbers)
+    × (machine_after (lists l.table) (calls_from l.script l.i (l.calls - l.i)) ≡ machine_after (fresh_machine six_table) (calls_from l.script 0 l.calls))
+    × (sets l.numbers l.i (numbers_of (lists l.table) (calls_from l.script l.i (l.calls - l.i))) ≡ sets l.initial.numbers 0 (numbers_of (fresh_machine six_table) (calls_from l.script 0 l.calls)))
 
 abbrev pub decreases-loop-i : goal.decreases-loop-i
-decreases-loop-i l = l.initial.numbers - l.i
+decreases-loop-i l = l.calls - l.i

@@ -6,4 +6,4 @@ use Rattle.test_table_export.proofs.Turns.{sizes_are}
 use Rattle.test_table_export.proofs.run_calls.Goals as goal
 
 pub returns : goal.returns
-returns c = record { counts = sizes_are _ _ _ _ _ c.run-table.ensures.0 c.type_rows.ensures.0 c.parameters.ensures.0 c.term_rows.ensures.0; returned = c.run-table.ensures.1; written = c.dump.ensures ∙ ap (λ m. dumped m c.args.entries.now) c.run-table.ensures.0 }
+returns c = record { counts = sizes_are _ _ _ _ _ c.run-table.ensures.after c.type_rows.ensures.0 c.parameters.ensures.0 c.term_rows.ensures.0; returned = c.run-table.ensures.returned; written = c.dump.ensures ∙ ap (λ m. dumped m c.args.entries.now) c.run-table.ensures.after }

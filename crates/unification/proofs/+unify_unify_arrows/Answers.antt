@@ -1,8 +1,6 @@
 -- `unification::unify` and `unify_arrows`: a merge and what it leaves; two arrows by their parts.
-use Prim.Native.Nat.{◌+◌, ◌*◌, ◌<◌}
 use native.Mathlib.Omega.{arith}
-use Rattle.graph.specs.Types.{roots}
-use Rattle.unification.proofs.Answering.{joined, answered_losing, merged_confined, arrows_room, arrows_clash, arrows_joined, arrows_below}
+use Rattle.unification.proofs.Answering.{joined, answered_losing, merged_confined, arrows_clash, arrows_joined, arrows_below}
 use Rattle.unification.proofs.+unify_unify_arrows.Goals as goal
 
 pub unify-unify_arrows-requires : goal.unify-unify_arrows-requires

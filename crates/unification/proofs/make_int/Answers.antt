@@ -1,6 +1,4 @@
 -- `unification::make_int`: each exit by the kind of the root.
-use borrow.Author.Rules.{rules}
-use native.Mathlib.Omega.{arith}
 use Rattle.unification.proofs.Merging.{at_root}
 use Rattle.unification.proofs.Answering.{int_made, int_known}
 use Rattle.unification.proofs.make_int.Goals as goal

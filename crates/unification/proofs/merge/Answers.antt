@@ -1,5 +1,4 @@
 -- `unification::merge`: what the smaller step says of the roots holds of the nodes.
-use borrow.Author.Rules.{rules}
 use Prim.Native.Nat.{◌<◌}
 use native.Mathlib.Omega.{arith}
 use Rattle.unification.proofs.Merging.{at_root, first_below, second_below, merged_same, merged_first, merged_second}

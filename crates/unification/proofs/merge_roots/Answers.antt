@@ -1,5 +1,4 @@
 -- `unification::merge_roots`: each exit by the kinds of the two roots.
-use borrow.Author.Rules.{rules}
 use native.Mathlib.Omega.{arith}
 use mathlib.Core.Logic.{inl, inr}
 use mathlib.Core.Path.{refl, sym}

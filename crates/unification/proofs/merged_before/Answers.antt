@@ -1,5 +1,4 @@
 -- `unification::merged_before`: each answer by its variant.
-use borrow.Author.Rules.{rules}
 use mathlib.Core.Path.{ap, sym}
 use Rattle.unification.specs.Answers.{losing}
 use Rattle.unification.proofs.merged_before.Goals as goal

@@ -1,5 +1,4 @@
 -- `unification::note_arrows`: the first and the third parts of the two descriptors.
-use borrow.Author.Rules.{rules}
 use native.Mathlib.Omega.{arith}
 use Rattle.unification.proofs.Noting.{noted_arrows}
 use Rattle.unification.proofs.note_arrows.Goals as goal

@@ -1,6 +1,5 @@
 -- A bit is read by a shift, and none from 64 on is set.
 use mathlib.Core.Path.{refl}
-use borrow.Author.Rules.{rules}
 use Rattle.closed.specs.Members.{member}
 use Rattle.closed.proofs.Bits.{none_past}
 use Rattle.closed.proofs.members.holds.Goals as goal

@@ -1,5 +1,4 @@
 -- A bit is set by `|` with a power of two.
-use borrow.Author.Rules.{rules}
 use Rattle.closed.proofs.Bits.{inserted, not_inserted}
 use Rattle.closed.proofs.members.insert.Goals as goal
 

@@ -1,6 +1,5 @@
 use native.Mathlib.Omega.{arith}
 use Rattle.moves.proofs.Applying.{spent_at, put_bound, not_app, not_op, not_var, not_num, not_enc}
-use borrow.Author.Rules.{rules}
 use Rattle.moves.proofs.cells.apply.Goals as goal
 
 pub returns-then-p-budget : goal.returns-then-p-budget

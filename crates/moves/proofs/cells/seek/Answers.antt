@@ -1,7 +1,7 @@
-use Prim.Native.Nat.{ℕ, ◌-◌, ◌≤◌}
+use Prim.Native.Nat.{◌-◌}
 use native.Mathlib.Omega.{arith}
 use mathlib.Core.Path.{◌≡◌}
-use Rattle.moves.specs.Moves.{Sought, nowhere}
+use Rattle.moves.specs.Moves.{nowhere}
 use Rattle.moves.proofs.Seeking.{sought_here, sought_past}
 use Rattle.moves.proofs.cells.seek.Goals as goal
 

@@ -1,8 +1,5 @@
-use Prim.Native.Nat.{ℕ, ◌-◌, ◌≤◌}
-use native.Mathlib.Omega.{arith}
-use mathlib.Core.Path.{◌≡◌}
-use Rattle.moves.specs.Moves.{Sought, nowhere}
-use Rattle.moves.proofs.Seeking.{sought_here, sought_past}
+use Prim.Native.Nat.{ℕ, ◌≤◌}
+use Rattle.moves.specs.Moves.{Sought}
 use Rattle.moves.proofs.cells.seek.Given as goal
 
 abbrev pub invariant-loop-at : goal.invariant-loop-at

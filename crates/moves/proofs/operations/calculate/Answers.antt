@@ -1,7 +1,6 @@
 use native.Mathlib.Omega.{arith}
 use native.Mathlib.Nat.{mul-le-mul}
 use Rattle.moves.proofs.Calculating.{is_add, is_mul, is_eq, is_lt, is_gt, four}
-use borrow.Author.Rules.{rules}
 use Rattle.moves.proofs.operations.calculate.Goals as goal
 
 pub overflow_mul-result : goal.overflow_mul-result

@@ -1,7 +1,6 @@
 use mathlib.Core.Path.{refl}
 use native.Mathlib.Omega.{arith}
 use Rattle.moves.proofs.Operating.{spent_before, overflows_past, operates_to}
-use borrow.Author.Rules.{rules}
 use Rattle.moves.proofs.operations.operate.Goals as goal
 
 pub returns-then-p-budget : goal.returns-then-p-budget

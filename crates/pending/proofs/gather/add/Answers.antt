@@ -1,6 +1,5 @@
 -- `pending::gather::add`: INT is left out.
 use mathlib.Core.Path.{refl}
-use borrow.Author.Rules.{rules}
 use Rattle.pending.specs.Lines.{noted, left_out}
 use Rattle.pending.proofs.gather.add.Goals as goal
 

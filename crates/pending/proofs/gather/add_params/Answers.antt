@@ -1,9 +1,6 @@
 -- `pending::gather::add_params`: the pairs of the parameters below p are added.
-use Prim.Native.Nat.{◌-◌, ◌≤◌}
 use native.Mathlib.Omega.{arith}
 use mathlib.Core.Path.{◌≡◌}
-use Rattle.forest.specs.Pairs.{notes_of}
-use Rattle.pending.specs.Lines.{ParamPair, Adds}
 use Rattle.pending.proofs.Gathering.{params_none, params_more}
 use Rattle.pending.proofs.gather.add_params.Goals as goal
 

@@ -1,9 +1,6 @@
 -- `pending::gather::add_types`: the pairs of the rows below x are added.
-use Prim.Native.Nat.{◌-◌, ◌*◌, ◌≤◌}
 use native.Mathlib.Omega.{arith}
 use mathlib.Core.Path.{◌≡◌}
-use Rattle.forest.specs.Pairs.{notes_of}
-use Rattle.pending.specs.Lines.{FormPair, Adds}
 use Rattle.pending.proofs.Gathering.{forms_none, forms_more}
 use Rattle.pending.proofs.gather.add_types.Goals as goal
 

@@ -1,10 +1,7 @@
 -- `pending::shapes::fix`: the pairs below j are looked at.
-use Prim.Native.Nat.{ℕ, ◌-◌}
 use native.Mathlib.Omega.{arith}
-use mathlib.Core.List.{List, []}
-use Rattle.qualifiers.specs.Classes.{qualifiers_of}
-use Rattle.pending.specs.Pending.{pending_of}
-use Rattle.pending.proofs.Fixing.{Fixing, fixing_none, fixing_more, fixed_all}
+use mathlib.Core.List.{[]}
+use Rattle.pending.proofs.Fixing.{fixing_none, fixing_more, fixed_all}
 use Rattle.pending.proofs.shapes.fix.Goals as goal
 
 pub words-words-requires : goal.words-words-requires

@@ -1,10 +1,9 @@
 -- `pending::shapes::fix`: the pairs below j are looked at.
 use Prim.Native.Nat.{ℕ, ◌-◌}
-use native.Mathlib.Omega.{arith}
-use mathlib.Core.List.{List, []}
+use mathlib.Core.List.{List}
 use Rattle.qualifiers.specs.Classes.{qualifiers_of}
 use Rattle.pending.specs.Pending.{pending_of}
-use Rattle.pending.proofs.Fixing.{Fixing, fixing_none, fixing_more, fixed_all}
+use Rattle.pending.proofs.Fixing.{Fixing}
 use Rattle.pending.proofs.shapes.fix.Given as goal
 
 abbrev pub invariant-loop-j : goal.invariant-loop-j

@@ -1,6 +1,5 @@
 -- `pending::shapes::fix_pair`: each exit by the roots of the two nodes.
 use native.Mathlib.Omega.{arith}
-use borrow.Author.Rules.{rules}
 use Rattle.pending.specs.Shapes.{kept, made}
 use Rattle.pending.proofs.Fixing.{no_scheme}
 use Rattle.pending.proofs.shapes.fix_pair.Goals as goal

@@ -1,6 +1,5 @@
 -- Each kind of line has its own call.
 use mathlib.Core.Path.{refl, sym, ap, ◌∙◌}
-use borrow.Author.Rules.{rules}
 use Rattle.model.specs.Machine.{entered}
 use Rattle.table.specs.Lists.{lists}
 use Rattle.table.proofs.Stored.{no_form}

@@ -1,6 +1,5 @@
 -- A refusal leaves the lists; an accepted row is stored behind those standing, where there is room.
 use mathlib.Core.Path.{refl}
-use borrow.Author.Rules.{rules}
 use Rattle.model.specs.Machine.{entered}
 use Rattle.table.proofs.Counts.{terms_whole}
 use Rattle.table.proofs.Stored.{free_by_rows, refused, term_room, term_stored}

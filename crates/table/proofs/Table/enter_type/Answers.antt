@@ -1,6 +1,5 @@
 -- A refusal leaves the lists; an accepted row is stored behind those standing, where there is room.
 use mathlib.Core.Path.{refl}
-use borrow.Author.Rules.{rules}
 use Rattle.model.specs.Machine.{entered}
 use Rattle.table.proofs.Counts.{types_whole}
 use Rattle.table.proofs.Stored.{refused, type_room, type_stored}

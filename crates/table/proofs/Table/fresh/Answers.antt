@@ -1,6 +1,5 @@
 -- The empty table's schemes are the six, with their ruling.
 use mathlib.Core.Path.{sym, ap, subst, ◌∙◌}
-use borrow.Author.Rules.{rules}
 use Rattle.model.specs.Machine.{fresh_machine}
 use Rattle.schemes.specs.Schemes.{Kept}
 use Rattle.table.proofs.Table.fresh.Goals as goal

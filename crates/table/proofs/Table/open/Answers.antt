@@ -1,6 +1,5 @@
 -- The empty table of what the file gives.
 use mathlib.Core.Path.{sym, subst}
-use borrow.Author.Rules.{rules}
 use Rattle.schemes.specs.Schemes.{Kept}
 use Rattle.table.proofs.Names.{opened_change}
 use Rattle.table.proofs.Table.open.Goals as goal

@@ -1,5 +1,4 @@
 -- The count or the limit, whichever is less, is the length of what stands.
-use borrow.Author.Rules.{rules}
 use Rattle.table.proofs.Counts.{params_counted}
 use Rattle.table.proofs.Table.parameters.Goals as goal
 

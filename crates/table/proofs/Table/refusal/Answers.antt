@@ -1,5 +1,4 @@
 -- The checks, over how many entries stand.
-use borrow.Author.Rules.{rules}
 use Rattle.table.specs.Lists.{lists}
 use Rattle.table.proofs.Table.refusal.Goals as goal
 

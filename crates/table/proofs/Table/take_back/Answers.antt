@@ -1,6 +1,5 @@
 -- A refusal leaves the lists; else one row fewer is taken of the array.
 use mathlib.Core.Path.{refl}
-use borrow.Author.Rules.{rules}
 use Rattle.table.proofs.Stored.{no_term, term_dropped}
 use Rattle.table.proofs.Table.take_back.Goals as goal
 

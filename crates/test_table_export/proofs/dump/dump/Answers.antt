@@ -15,7 +15,7 @@ pub loop-k-init : goal.loop-k-init
 loop-k-init c = (search rules, refl, refl)
 
 pub loop-k-preserved : goal.loop-k-preserved
-loop-k-preserved c = (search rules, c.put.auto.0 ∙ c.loop-k.invariant.1, entry_written (lists c.args.table) c.loop-k.k c.loop-k.entries _ _ _ c.loop-k-test.true c.loop-k.invariant.2 c.entry-bytes.ensures c.put.ensures)
+loop-k-preserved c = (search rules, c.put.auto.entries ∙ c.loop-k.invariant.1, entry_written (lists c.args.table) c.loop-k.k c.loop-k.entries _ _ _ c.loop-k-test.true c.loop-k.invariant.2 c.entry-bytes.ensures c.put.ensures)
 
 pub shape_of-entries : goal.shape_of-entries
 shape_of-entries c = c.loop-k.invariant.1

@@ -9,7 +9,7 @@ use Rattle.test_table_export.proofs.Turns.{byte_stored, bytes_stored}
 use Rattle.test_table_export.proofs.dump.put.Given as goal
 
 abbrev pub invariant-loop-i : goal.invariant-loop-i
-invariant-loop-i l = (l.i ≤ length l.initial.entries) × (length l.entries ≡ length l.at) × (sets l.entries (l.bytes + l.i) (drop l.i l.initial.entries) ≡ sets l.at l.bytes l.initial.entries)
+invariant-loop-i l = (l.i ≤ length l.bytes) × (length l.entries ≡ length l.initial.entries) × (sets l.entries (l.at + l.i) (drop l.i l.bytes) ≡ sets l.initial.entries l.at l.bytes)
 
 abbrev pub decreases-loop-i : goal.decreases-loop-i
-decreases-loop-i l = length l.initial.entries - l.i
+decreases-loop-i l = length l.bytes - l.i
