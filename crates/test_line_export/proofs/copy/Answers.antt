@@ -1,8 +1,6 @@
 -- The buffer has, at each turn, the numbers copied so far, and from there on what it had before.
-use Prim.Native.Nat.{◌-◌}
 use borrow.Author.Rules.{rules}
-use lib.ListN.{length}
-use Rattle.test_line_export.proofs.Writing.{Copied, copies}
+use Rattle.test_line_export.proofs.Writing.{copies}
 use Rattle.test_line_export.proofs.copy.Goals as goal
 
 pub loop-i-init : goal.loop-i-init

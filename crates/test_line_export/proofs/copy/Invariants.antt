@@ -1,8 +1,7 @@
 -- The buffer has, at each turn, the numbers copied so far, and from there on what it had before.
 use Prim.Native.Nat.{◌-◌}
-use borrow.Author.Rules.{rules}
 use lib.ListN.{length}
-use Rattle.test_line_export.proofs.Writing.{Copied, copies}
+use Rattle.test_line_export.proofs.Writing.{Copied}
 use Rattle.test_line_export.proofs.copy.Given as goal
 
 abbrev pub invariant-loop-i : goal.invariant-loop-i

@@ -1,5 +1,4 @@
 -- Each arm has the numbers of its form.
-use borrow.Author.Rules.{rules}
 use Rattle.test_line_export.proofs.term_numbers.Goals as goal
 
 pub returns-in-Lam : goal.returns-in-Lam

@@ -1,5 +1,4 @@
 -- Each arm has the numbers of its form.
-use borrow.Author.Rules.{rules}
 use Rattle.test_line_export.proofs.type_numbers.Goals as goal
 
 pub returns-in-Int : goal.returns-in-Int

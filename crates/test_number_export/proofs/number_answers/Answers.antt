@@ -1,9 +1,9 @@
 -- Each turn stores one answer and feeds one byte; the last answer is stored after them.
-use Prim.Native.Nat.{◌-◌, ◌≤◌}
+use Prim.Native.Nat.{◌≤◌}
 use native.Mathlib.Omega.{arith}
 use lib.ListN.{length}
 use borrow.Author.Rules.{rules}
-use Rattle.test_number_export.proofs.Prefixes.{Asked, asks}
+use Rattle.test_number_export.proofs.Prefixes.{asks}
 use Rattle.test_number_export.proofs.number_answers.Goals as goal
 
 pub returns-then-out-s : goal.returns-then-out-s

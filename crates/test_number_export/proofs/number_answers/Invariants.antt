@@ -1,9 +1,7 @@
 -- Each turn stores one answer and feeds one byte; the last answer is stored after them.
-use Prim.Native.Nat.{◌-◌, ◌≤◌}
-use native.Mathlib.Omega.{arith}
+use Prim.Native.Nat.{◌-◌}
 use lib.ListN.{length}
-use borrow.Author.Rules.{rules}
-use Rattle.test_number_export.proofs.Prefixes.{Asked, asks}
+use Rattle.test_number_export.proofs.Prefixes.{Asked}
 use Rattle.test_number_export.proofs.number_answers.Given as goal
 
 abbrev pub invariant-loop-i : goal.invariant-loop-i

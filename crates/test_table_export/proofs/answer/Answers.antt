@@ -1,6 +1,5 @@
 -- Each way makes the call that the bytes say.
 use mathlib.Core.Path.{ap, ◌∙◌}
-use borrow.Author.Rules.{rules}
 use Rattle.table.specs.Lists.{lists}
 use Rattle.test_table_export.specs.Script.{answer_of}
 use Rattle.test_table_export.proofs.Bytes.{call_adds, call_redeclares, call_takes_back}

@@ -1,14 +1,12 @@
 -- The calls left, made on the present table, leave what all calls leave, and their numbers complete those written.
 use Prim.Native.Nat.{◌-◌, ◌≤◌}
-use mathlib.Core.Path.{◌≡◌, refl, ap, ◌∙◌}
-use lib.ListN.{length, length-set}
+use mathlib.Core.Path.{◌≡◌}
+use lib.ListN.{length}
 use lib.Seq.{sets}
-use borrow.Author.Rules.{rules}
 use Rattle.scheme.specs.Six.{six_table}
 use Rattle.model.specs.Machine.{fresh_machine}
 use Rattle.table.specs.Lists.{lists}
 use Rattle.test_table_export.specs.Script.{calls_from, numbers_of, machine_after}
-use Rattle.test_table_export.proofs.Turns.{part_whole, machine_starts, numbers_start, call_left, number_left, calls_done}
 use Rattle.test_table_export.proofs.run.Given as goal
 
 abbrev pub invariant-loop-i : goal.invariant-loop-i

@@ -1,6 +1,5 @@
 -- The table that the calls leave is written out and counted.
 use mathlib.Core.Path.{ap, ◌∙◌}
-use borrow.Author.Rules.{rules}
 use Rattle.test_table_export.specs.Dump.{dumped}
 use Rattle.test_table_export.proofs.Turns.{sizes_are}
 use Rattle.test_table_export.proofs.run_calls.Goals as goal

@@ -1,11 +1,9 @@
 -- The entries left, written to the present bytes, give the whole.
 use Prim.Native.Nat.{◌-◌, ◌≤◌}
-use mathlib.Core.Path.{◌≡◌, refl, ◌∙◌}
+use mathlib.Core.Path.{◌≡◌}
 use lib.ListN.{length}
-use borrow.Author.Rules.{rules}
 use Rattle.table.specs.Lists.{lists}
 use Rattle.test_table_export.specs.Dump.{dumped_from}
-use Rattle.test_table_export.proofs.Turns.{entry_written, entries_written, no_room, all_entries}
 use Rattle.test_table_export.proofs.dump.dump.Given as goal
 
 abbrev pub invariant-loop-k : goal.invariant-loop-k

@@ -1,6 +1,5 @@
 -- Each range of numbers has its own list.
 use mathlib.Core.Path.{◌∙◌}
-use borrow.Author.Rules.{rules}
 use Rattle.test_table_export.proofs.Bytes.{type_place, param_place, term_place}
 use Rattle.test_table_export.proofs.dump.entry.Goals as goal
 

@@ -1,5 +1,4 @@
 -- Each number is given by its two bytes.
-use borrow.Author.Rules.{rules}
 use Rattle.test_table_export.proofs.Bytes.{pair_made}
 use Rattle.test_table_export.proofs.dump.pair_bytes.Goals as goal
 

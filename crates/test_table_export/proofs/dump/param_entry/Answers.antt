@@ -1,7 +1,6 @@
 -- An entry that stands is the array's; else the bytes are 0.
 use Prim.Native.Nat.{◌<◌}
 use mathlib.Core.Path.{sym, ap, subst, ◌∙◌}
-use borrow.Author.Rules.{rules}
 use Rattle.table.proofs.Entries.{param_at_lem}
 use Rattle.test_table_export.specs.Dump.{param_bytes}
 use Rattle.test_table_export.proofs.Bytes.{standing, absent}

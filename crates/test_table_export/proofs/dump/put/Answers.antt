@@ -1,9 +1,7 @@
 -- The bytes left, stored in the present list, give the whole.
-use Prim.Native.Nat.{◌+◌, ◌-◌, ◌≤◌}
 use native.Mathlib.Nat.{add-zero}
-use mathlib.Core.Path.{◌≡◌, refl}
-use lib.ListN.{length, drop, length-set}
-use lib.Seq.{sets}
+use mathlib.Core.Path.{refl}
+use lib.ListN.{length-set}
 use borrow.Author.Rules.{rules}
 use Rattle.test_table_export.proofs.Turns.{byte_stored, bytes_stored}
 use Rattle.test_table_export.proofs.dump.put.Goals as goal

@@ -1,11 +1,8 @@
 -- The bytes left, stored in the present list, give the whole.
 use Prim.Native.Nat.{◌+◌, ◌-◌, ◌≤◌}
-use native.Mathlib.Nat.{add-zero}
-use mathlib.Core.Path.{◌≡◌, refl}
-use lib.ListN.{length, drop, length-set}
+use mathlib.Core.Path.{◌≡◌}
+use lib.ListN.{length, drop}
 use lib.Seq.{sets}
-use borrow.Author.Rules.{rules}
-use Rattle.test_table_export.proofs.Turns.{byte_stored, bytes_stored}
 use Rattle.test_table_export.proofs.dump.put.Given as goal
 
 abbrev pub invariant-loop-i : goal.invariant-loop-i

@@ -1,6 +1,5 @@
 -- Each arm has the bytes of its form.
 use mathlib.Core.Path.{sym, ap, ◌∙◌}
-use borrow.Author.Rules.{rules}
 use Rattle.test_table_export.specs.Dump.{term_bytes}
 use Rattle.test_table_export.proofs.dump.term_bytes.Goals as goal
 

@@ -1,5 +1,4 @@
 -- Each arm has the bytes of its form.
-use borrow.Author.Rules.{rules}
 use Rattle.test_table_export.proofs.Bytes.{arrow_made}
 use Rattle.test_table_export.proofs.dump.type_bytes.Goals as goal
 
