@@ -3,15 +3,12 @@ use Prim.Native.Nat.{ℕ, ◌-◌, ◌<◌, ◌≤◌}
 use native.Mathlib.Omega.{arith}
 use native.Mathlib.Decide.{dec_lt}
 use mathlib.Core.List.{List}
-use mathlib.Core.Path.{◌≡◌, refl, sym, ap, subst, subst₂, ◌∙◌}
+use mathlib.Core.Path.{◌≡◌, refl, sym, ap, subst, ◌∙◌}
 use lib.ListN.{length}
-use Rattle.layout.specs.Layout.{row_type, row_qualifier, nodes}
-use Rattle.layout.specs.Kinds.{first_arrow, descriptor_of}
-use Rattle.model.specs.Machine.{Machine, param_at, term_at}
+use Rattle.layout.specs.Layout.{row_type, nodes}
+use Rattle.model.specs.Machine.{Machine}
 use Rattle.model.specs.WellFormed.{WellFormed, TermStands}
 use Rattle.model.specs.Typing.{Ty, int, arrow, PlainArrows}
-use Rattle.model.specs.declared.Term.{Term}
-use Rattle.model.specs.declared.Term.TheVariants.{Lam, App}
 use Rattle.scheme.specs.Schemes.{words}
 use Rattle.forest.specs.Forest.{Linked, Found}
 use Rattle.forest.proofs.Links.{find_root}
@@ -24,11 +21,10 @@ use Rattle.readings.specs.Nodes.{Meets, Plain}
 use Rattle.readings.specs.Standing as standing
 use Rattle.readings.specs.Standing.{PlainAt, Stands, param, row}
 use Rattle.readings.proofs.Standing.{plain_with, plain_stands, plain_of_stands}
-use Rattle.setup.specs.Descriptors.{HasParts, Written, blank, form, abstraction, application}
+use Rattle.setup.specs.Descriptors.{Written, blank, form, abstraction, application}
 use Rattle.pending.specs.Pending.{Pending, pair_qualifier, pair_type, AllPlain, Watched}
-use Rattle.rows.specs.Steps.{Ready, PlainBefore, PartsPlain}
+use Rattle.rows.specs.Steps.{PlainBefore, PartsPlain}
 use Rattle.solver.specs.State.{After}
-use Rattle.solver.specs.Runs.{Governed}
 
 -- By what is known of a class: nothing, INT, or an arrow.
 by_kind : {G : Type 0} (n : ℕ) → (n ≡ 0 → G) → (n ≡ 1 → G) → (2 ≤ n → G) → G

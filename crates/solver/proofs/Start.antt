@@ -14,7 +14,7 @@ use Rattle.scheme.specs.Schemes.{words}
 use Rattle.scheme.specs.Rule.{words_at, top_at, under, Lattice}
 use Rattle.model.specs.Machine.{Machine, type_at, param_at}
 use Rattle.model.specs.WellFormed.{WellFormed, TypeStands}
-use Rattle.model.specs.Typing.{Ty, int, arrow, TypeAgrees}
+use Rattle.model.specs.Typing.{Ty, int, TypeAgrees}
 use Rattle.model.specs.Inference.{ruling, Refusal}
 use Rattle.model.specs.declared.TypeForm.{TypeForm}
 use Rattle.model.specs.declared.TypeForm.TheVariants.{Int, Any, Arrow}

@@ -1,14 +1,13 @@
 -- What a row's verdict and the tests at the end say of the typings of document 01.
 use Prim.Native.Nat.{ℕ, ◌+◌, ◌<◌, ◌≤◌}
 use native.Mathlib.Omega.{arith}
-use mathlib.Core.Bool.{true}
 use mathlib.Core.List.{List}
-use mathlib.Core.Path.{◌≡◌, refl}
+use mathlib.Core.Path.{refl}
 use lib.ListN.{length}
 use Rattle.layout.specs.Readings.{Constant}
 use Rattle.layout.specs.Layout.{nodes, row_type}
 use Rattle.scheme.specs.Schemes.{words}
-use Rattle.scheme.specs.Rule.{words_at, under, Lattice}
+use Rattle.scheme.specs.Rule.{words_at, Lattice}
 use Rattle.scheme.proofs.Rule.{lattice}
 use Rattle.model.specs.Machine.{Machine}
 use Rattle.model.specs.Typing.{Ty, int, Typable}
@@ -22,7 +21,6 @@ use Rattle.qualifiers.specs.Classes.{Bounded, Within, qualifiers_of}
 use Rattle.qualifiers.proofs.Readings.{some_reading, greatest_reading}
 use Rattle.occurs.proofs.Existence.{reading}
 use Rattle.occurs.proofs.Readings.{finite_of_reading}
-use Rattle.scheme.proofs.Schemes.{sound_few}
 use Rattle.readings.proofs.Rows.{meets_fewer, meets_last, meets_more, plain_fewer}
 use Rattle.pending.specs.Pending.{Pending, Watched}
 use Rattle.readings.proofs.Strengths.{none_erased, none_unordered, none_whole, some_erased, some_unordered, some_whole}

@@ -1,7 +1,6 @@
 -- `solver::again`: the start, and the lines from there.
 use Prim.Native.Nat.{ℕ}
 use lib.ListN.{length-replicate}
-use borrow.Author.Rules.{rules}
 use Rattle.layout.specs.Layout.{nodes}
 use Rattle.solver.proofs.Start.{begun_at}
 use Rattle.solver.proofs.again.Goals as goal

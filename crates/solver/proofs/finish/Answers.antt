@@ -1,6 +1,5 @@
 -- `solver::finish`: the whole search; a type that contains itself stops the run at the last row, and else the shapes are fixed.
 use native.Mathlib.Omega.{arith}
-use borrow.Author.Rules.{rules}
 use Rattle.solver.proofs.finish.Goals as goal
 
 pub all_finite-requires : goal.all_finite-requires

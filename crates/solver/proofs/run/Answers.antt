@@ -1,5 +1,4 @@
 -- `solver::run`: the lines, and from there the rows.
-use borrow.Author.Rules.{rules}
 use Rattle.solver.proofs.run.Goals as goal
 
 pub take_lines-requires : goal.take_lines-requires

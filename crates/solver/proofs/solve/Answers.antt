@@ -3,7 +3,6 @@ use Prim.Native.Nat.{ℕ, ◌<◌}
 use mathlib.Core.List.{List}
 use mathlib.Core.Path.{◌≡◌, refl}
 use lib.ListN.{take, replicate, length-replicate}
-use borrow.Author.Rules.{rules}
 use Rattle.layout.specs.Layout.{nodes, part_places}
 use Rattle.scheme.specs.Schemes.{SchemeTable}
 use Rattle.scheme.specs.Rule.{top_at}

@@ -1,7 +1,6 @@
 -- `solver::stop`: the whole search tells whether the row is known to be the least.
 use mathlib.Core.Path.{refl}
 use native.Mathlib.Omega.{arith}
-use borrow.Author.Rules.{rules}
 use Rattle.solver.proofs.stop.Goals as goal
 
 pub all_finite-requires : goal.all_finite-requires

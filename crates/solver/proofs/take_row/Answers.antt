@@ -3,7 +3,6 @@ use Prim.Native.Nat.{ℕ, ◌+◌, ◌<◌, ◌≤◌}
 use mathlib.Core.List.{List}
 use mathlib.Core.Path.{◌≡◌}
 use native.Mathlib.Omega.{arith}
-use borrow.Author.Rules.{rules}
 use Rattle.model.specs.Machine.{Machine}
 use Rattle.graph.specs.Types.{types_of}
 use Rattle.qualifiers.specs.Classes.{qualifiers_of}
@@ -13,7 +12,7 @@ use Rattle.readings.specs.Nodes.{node_named}
 use Rattle.setup.specs.Descriptors.{Describes}
 use Rattle.setup.specs.Passes.{Only, RowLeft}
 use Rattle.setup.proofs.Descriptors.{has_nodes}
-use Rattle.pending.specs.Pending.{Pending, pending_of}
+use Rattle.pending.specs.Pending.{Pending}
 use Rattle.rows.specs.Rows.{RowStands}
 use Rattle.rows.specs.Steps.{Ready}
 use Rattle.solver.specs.State.{After}

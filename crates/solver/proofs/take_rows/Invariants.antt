@@ -1,10 +1,7 @@
 -- `solver::take_rows`: before each turn the state is the one after the rows taken, and the rows of a further run are fewer; that run shows the rows before
 -- the last stop typable.
 use Prim.Native.Nat.{ℕ, ◌+◌, ◌*◌, ◌-◌, ◌<◌, ◌≤◌}
-use native.Mathlib.Omega.{arith}
 use mathlib.Core.List.{List}
-use mathlib.Core.Path.{◌≡◌, subst}
-use borrow.Author.Rules.{rules}
 use Rattle.model.specs.Machine.{Machine}
 use Rattle.graph.specs.Types.{Types, types_of}
 use Rattle.qualifiers.specs.Classes.{Qualifiers, qualifiers_of}
@@ -14,8 +11,6 @@ use Rattle.pending.specs.declared.Sweep.TheVariants.{Kept}
 use Rattle.rows.specs.Steps.{Ready}
 use Rattle.solver.specs.State.{After}
 use Rattle.solver.specs.Runs.{Fails, Lined, Held}
-use Rattle.solver.proofs.Placed.{completed}
-use Rattle.solver.proofs.Ready.{row_of, row_ready, refusal_of_lem, refusal_first}
 use Rattle.solver.proofs.take_rows.Given as goal
 
 -- Before row i of a run over so many of all rows: where they are fewer, the row behind them leaves no typing.
