@@ -1,14 +1,12 @@
 -- The four numbers of an answer are written at the front of an array.
-use Prim.Native.Nat.{ℕ, suc, ◌*◌, ◌≤◌, ◌<◌}
+use Prim.Native.Nat.{ℕ, ◌*◌, ◌≤◌}
 use native.Mathlib.Omega.{arith}
-use mathlib.Core.Bool.{true, false}
-use mathlib.Core.List.{List, [], ◌∷◌, ◌++◌}
-use mathlib.Core.Path.{◌≡◌, refl, sym, ap, ◌∙◌}
-use lib.Dec.{eqb}
+use mathlib.Core.List.{List, [], ◌∷◌}
+use mathlib.Core.Path.{◌≡◌, refl, ◌∙◌}
 use lib.ListN.{length, set, drop}
 use borrow.Author.Tests.{eq-eqb, ne_eqb}
-use Rattle.dryrun.specs.Entry.{value_of, tag_of, ended_as, returned_for}
-use Rattle.evaluator.specs.Evaluation.{answered, outcome}
+use Rattle.dryrun.specs.Entry.{value_of, tag_of, ended_as}
+use Rattle.evaluator.specs.Evaluation.{answered}
 use Rattle.evaluator.specs.declared.Ran.{Ran}
 use Rattle.run.specs.Answered.{Answered}
 

@@ -1,16 +1,15 @@
 -- An accepted program's job, as the first point of a run.
-use Prim.Native.Nat.{ℕ, suc, ◌-◌, ◌≤◌, ◌<◌, min}
+use Prim.Native.Nat.{ℕ, suc, ◌-◌, ◌≤◌, ◌<◌}
 use native.Mathlib.Omega.{arith}
 use mathlib.Core.Bool.{Bool, true, false, false≢true}
 use mathlib.Core.List.{List}
 use mathlib.Core.Path.{◌≡◌, refl, sym, ap, subst, ◌∙◌}
-use lib.ListN.{length, get_or, replicate, length-replicate}
+use lib.ListN.{length, replicate, length-replicate}
 use Rattle.scheme.specs.Schemes.{words}
 use Rattle.model.specs.Machine.{Machine, term_in, term_at}
 use Rattle.model.specs.Closed.{Closed}
-use Rattle.model.specs.WellFormed.{WellFormed, TermStands}
+use Rattle.model.specs.WellFormed.{TermStands}
 use Rattle.model.specs.Inference.{ruling, Slot, param, row, Shape, GreatestTyping, Judged}
-use Rattle.model.specs.declared.Term.TheVariants.{Lam}
 use Rattle.model.specs.declared.TermRow.{TermRow}
 use Rattle.model.proofs.Unique.{judged_accepted}
 use Rattle.table.specs.Lists.{lists}
@@ -25,14 +24,14 @@ use Rattle.dryrun.specs.Run.{nothing_made, refused, Outcome, Runs, itself, most_
 use Rattle.dryrun.proofs.Same.{judged_closed}
 use Rattle.dryrun.proofs.Promises.{never_stuck, never_free}
 use Rattle.environments.specs.Kinds.{function_tag}
-use Rattle.environments.specs.Standing.{Safe, Cells, Frames, close, plug, row_of, nothing, a_row, Standing}
+use Rattle.environments.specs.Standing.{Safe, Frames, close, plug, row_of, nothing, a_row}
 use Rattle.environments.proofs.Close.{close_none}
-use Rattle.moves.specs.Moves.{Framed, frames_of, Job}
+use Rattle.moves.specs.Moves.{Framed, frames_of}
 use Rattle.moves.specs.declared.Point.{Point}
 use Rattle.leading.specs.Leading.{Led, Unfit, Leads, LamsStand, TagsNumbers}
 use Rattle.leading.specs.Leading as Leading
 use Rattle.leading.proofs.Lams.{leading_most}
-use Rattle.evaluator.specs.Evaluation.{outcome, RowsIn, Begins, Begun, Evaluates}
+use Rattle.evaluator.specs.Evaluation.{outcome, Begins, Evaluates}
 use Rattle.evaluator.specs.declared.Ran.{Ran}
 use Rattle.evaluator.specs.declared.Answer.TheVariants.{Nothing}
 use Rattle.run.specs.First.{first_point}

@@ -1,7 +1,6 @@
 use native.Mathlib.Omega.{arith}
 use Rattle.inference.proofs.Judging.{accepted_row}
 use Rattle.run.proofs.Starting.{not_judged}
-use borrow.Author.Rules.{rules}
 use Rattle.run.proofs.dry_run.Goals as goal
 
 pub returns-then-verdict-ne0 : goal.returns-then-verdict-ne0

@@ -3,7 +3,6 @@ use Rattle.table.specs.Lists.{lists}
 use Rattle.report.specs.Codes.{coded_word}
 use Rattle.dryrun.specs.Run.{job}
 use Rattle.run.proofs.Starting.{none_framed, first_low, some_row, lams_stand, led_rows, tags_numbers, unled, led, few_numbers, unfit_refused, begins_at, evaluated_at}
-use borrow.Author.Rules.{rules}
 use Rattle.run.proofs.run_accepted.Goals as goal
 
 pub lead-requires : goal.lead-requires

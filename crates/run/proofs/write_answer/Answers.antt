@@ -2,7 +2,6 @@ use native.Mathlib.Omega.{arith}
 use mathlib.Core.Path.{refl}
 use lib.ListN.{length-set}
 use Rattle.run.proofs.Answering.{answered_refused, answered_ended}
-use borrow.Author.Rules.{rules}
 use Rattle.run.proofs.write_answer.Goals as goal
 
 pub bounds-answer-1 : goal.bounds-answer-1
