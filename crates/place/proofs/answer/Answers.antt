@@ -5,4 +5,4 @@ use borrow.Author.Rules.{rules}
 use Rattle.place.proofs.answer.Goals as goal
 
 pub slice_bounds-write-end : goal.slice_bounds-write-end
-slice_bounds-write-end c = simp length-take (omega (arith, c.print-length.ensures.1))
+slice_bounds-write-end c = simp length-take (omega (arith, c.print-length.ensures.size))
