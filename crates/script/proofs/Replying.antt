@@ -15,7 +15,6 @@ use Rattle.model.proofs.Numbers.{added_most, redeclared_most, taken_back_most}
 use Rattle.conversation.proofs.Numbers.{restarted_most}
 use Rattle.table.specs.Lists.{lists, change}
 use Rattle.table.specs.Called.{Called}
-use Rattle.table.specs.Called as Called
 use Rattle.table.specs.declared.Table.{Table}
 use Rattle.table.specs.declared.Answered.{Answered}
 use Rattle.table.specs.Ready.{Ready}

@@ -1,10 +1,8 @@
 -- The answers to the lines left come after those so far; each turn leaves fewer bytes.
 use Prim.Native.Nat.{◌-◌}
-use mathlib.Core.Path.{◌≡◌, refl}
+use mathlib.Core.Path.{◌≡◌}
 use lib.ListN.{length}
-use borrow.Author.Rules.{rules}
-use Rattle.lines.proofs.Lines.{end_bound, end_fits}
-use Rattle.script.proofs.Conversing.{Left, turns}
+use Rattle.script.proofs.Conversing.{Left}
 use Rattle.script.proofs.converse.Given as goal
 
 abbrev pub invariant-loop-from : goal.invariant-loop-from

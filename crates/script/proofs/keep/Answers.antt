@@ -1,8 +1,6 @@
 -- Each byte is put behind those that are kept, until there is no room or no byte is left.
-use Prim.Native.Nat.{◌-◌}
 use borrow.Author.Rules.{rules}
-use lib.ListN.{length}
-use Rattle.script.proofs.Keeping.{Keeping, keep_first, keep_full, keep_byte, keep_end}
+use Rattle.script.proofs.Keeping.{keep_first, keep_full, keep_byte, keep_end}
 use Rattle.script.proofs.keep.Goals as goal
 
 pub loop-i-init : goal.loop-i-init

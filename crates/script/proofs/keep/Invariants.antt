@@ -1,8 +1,7 @@
 -- Each byte is put behind those that are kept, until there is no room or no byte is left.
 use Prim.Native.Nat.{◌-◌}
-use borrow.Author.Rules.{rules}
 use lib.ListN.{length}
-use Rattle.script.proofs.Keeping.{Keeping, keep_first, keep_full, keep_byte, keep_end}
+use Rattle.script.proofs.Keeping.{Keeping}
 use Rattle.script.proofs.keep.Given as goal
 
 abbrev pub invariant-loop-i : goal.invariant-loop-i

@@ -1,5 +1,4 @@
 -- The words are a budget and numbers, or no command.
-use native.Mathlib.Omega.{arith}
 use borrow.Author.Rules.{rules}
 use Rattle.inference.proofs.Judging.{front_names, front_short}
 use Rattle.script.proofs.Running.{unknown_told, run_told}

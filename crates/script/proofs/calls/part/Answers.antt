@@ -1,8 +1,6 @@
 -- Byte by byte, until there is no room or no byte is left.
-use Prim.Native.Nat.{◌-◌}
 use borrow.Author.Rules.{rules}
-use lib.ListN.{length}
-use Rattle.script.proofs.Restarting.{Parting, part_first, part-byte, part_full, part_end}
+use Rattle.script.proofs.Restarting.{part_first, part-byte, part_full, part_end}
 use Rattle.script.proofs.calls.part.Goals as goal
 
 pub loop-i-init : goal.loop-i-init

@@ -1,8 +1,7 @@
 -- Byte by byte, until there is no room or no byte is left.
 use Prim.Native.Nat.{◌-◌}
-use borrow.Author.Rules.{rules}
 use lib.ListN.{length}
-use Rattle.script.proofs.Restarting.{Parting, part_first, part-byte, part_full, part_end}
+use Rattle.script.proofs.Restarting.{Parting}
 use Rattle.script.proofs.calls.part.Given as goal
 
 abbrev pub invariant-loop-i : goal.invariant-loop-i

@@ -3,7 +3,6 @@ use native.Mathlib.Omega.{arith}
 use mathlib.Core.Path.{refl}
 use lib.ListN.{length-take}
 use Rattle.script.proofs.Restarting.{refused_left, accepted_left}
-use borrow.Author.Rules.{rules}
 use Rattle.script.proofs.calls.restart.Goals as goal
 
 pub slice_bounds-open-end : goal.slice_bounds-open-end
