@@ -5,11 +5,10 @@
 ghost use Rattle.std.specs.Prelude.{◌≤◌, length, IfOk};
 ghost use Rattle.streams.specs.Reads.{ReadInto, FilledFrom};
 
-use std::io;
 use std::io::{Error, ErrorKind, Read, Write};
 use std::rt::Clock;
-use std::thread;
 use std::time::Duration;
+use std::{io, thread};
 
 // What one read came to.
 #[derive(Clone, Copy)]

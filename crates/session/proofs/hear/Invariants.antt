@@ -1,8 +1,6 @@
 -- Each turn leaves fewer bytes of the part.
 use Prim.Native.Nat.{◌-◌}
-use borrow.Author.Rules.{rules}
 use lib.ListN.{length}
-use Rattle.lines.proofs.Lines.{end_bound, end_fits}
 use Rattle.session.specs.Going.{Going}
 use Rattle.session.proofs.hear.Given as goal
 

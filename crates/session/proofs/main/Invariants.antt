@@ -1,8 +1,4 @@
 -- Each turn is one fewer to come.
-use native.Mathlib.Omega.{arith}
-use borrow.Author.Rules.{rules}
-use Rattle.scheme.specs.Six.{six_table}
-use Rattle.table.proofs.Follows.{fresh_ready}
 use Rattle.session.specs.Going.{Going}
 use Rattle.session.proofs.main.Given as goal
 

@@ -1,7 +1,6 @@
 -- The line that is kept is answered, and the answer is written.
 use native.Mathlib.Omega.{arith}
 use lib.ListN.{length-take}
-use borrow.Author.Rules.{rules}
 use Rattle.session.proofs.reply.Goals as goal
 
 pub slice_bounds-answer-end : goal.slice_bounds-answer-end

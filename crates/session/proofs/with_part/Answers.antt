@@ -1,5 +1,4 @@
 -- What is kept stays within the line's array.
-use borrow.Author.Rules.{rules}
 use Rattle.session.proofs.with_part.Goals as goal
 
 pub returns : goal.returns

@@ -1,6 +1,5 @@
 -- The place stays between the start and the end of the text.
 use Prim.Native.Nat.{◌-◌, ◌≤◌}
-use borrow.Author.Rules.{rules}
 use lib.ListN.{length}
 use Rattle.test_line_main.proofs.end.Given as goal
 

@@ -1,6 +1,5 @@
 -- Each line ends past its start, so less of the text is left.
 use Prim.Native.Nat.{◌-◌}
-use borrow.Author.Rules.{rules}
 use lib.ListN.{length}
 use Rattle.test_line_main.proofs.show_lines.Given as goal
 

@@ -1,7 +1,5 @@
 -- No more bytes are found than are passed, so the count fits.
 use Prim.Native.Nat.{◌-◌, ◌≤◌}
-use native.Mathlib.Omega.{arith}
-use borrow.Author.Rules.{rules}
 use lib.ListN.{length}
 use Rattle.test_report_main.proofs.count.Given as goal
 

@@ -1,6 +1,5 @@
 -- The loop counts to 64.
 use Prim.Native.Nat.{◌≤◌, ◌-◌}
-use borrow.Author.Rules.{rules}
 use Rattle.test_table_main.proofs.full_of_types.Given as goal
 
 abbrev pub invariant-loop-i : goal.invariant-loop-i
