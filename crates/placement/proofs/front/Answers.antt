@@ -2,7 +2,6 @@
 use native.Mathlib.Omega.{arith}
 use lib.ListN.{length-take}
 use Rattle.placement.proofs.Exits.{front_whole}
-use borrow.Author.Rules.{rules}
 use Rattle.placement.proofs.front.Goals as goal
 
 pub returns-then-text-le-TEXT : goal.returns-then-text-le-TEXT

@@ -1,7 +1,6 @@
 -- A short buffer, a refused file, or what is returned under the file's table.
 use Rattle.model.specs.Text.{ReturnsUnder}
 use Rattle.placement.proofs.Exits.{file_refused, file_accepted}
-use borrow.Author.Rules.{rules}
 use Rattle.placement.proofs.placement_report_under.Goals as goal
 
 pub returns-then-buffer-lt-REPORT : goal.returns-then-buffer-lt-REPORT

@@ -1,5 +1,4 @@
 -- The six's bytes stand for the table of the six.
-use borrow.Author.Rules.{rules}
 use Rattle.placement.proofs.placement_run.Goals as goal
 
 pub run_text-requires : goal.run_text-requires

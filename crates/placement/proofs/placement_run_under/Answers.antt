@@ -1,7 +1,6 @@
 -- A short answer, a refused file, or what is returned under the file's table.
 use Rattle.dryrun.specs.Entry.{RunReturnsUnder}
 use Rattle.placement.proofs.Exits.{run_file_refused, run_file_accepted}
-use borrow.Author.Rules.{rules}
 use Rattle.placement.proofs.placement_run_under.Goals as goal
 
 pub returns-then-answer-lt-ANSWER : goal.returns-then-answer-lt-ANSWER

@@ -1,6 +1,5 @@
 -- The line of a refused add, or what is printed of the infer call.
 use Rattle.placement.proofs.Exits.{add_room, add_printed, inference_printed}
-use borrow.Author.Rules.{rules}
 use Rattle.placement.proofs.print.Goals as goal
 
 pub load-loaded-requires : goal.load-loaded-requires

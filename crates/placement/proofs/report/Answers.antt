@@ -2,7 +2,6 @@
 use native.Mathlib.Omega.{arith}
 use Rattle.model.specs.Text.{Returns}
 use Rattle.placement.proofs.Exits.{add_returned, bounded, inference_returned, report_returned}
-use borrow.Author.Rules.{rules}
 use Rattle.placement.proofs.report.Goals as goal
 
 pub returns-then-buffer-lt-REPORT : goal.returns-then-buffer-lt-REPORT

@@ -1,7 +1,6 @@
 -- A short answer, a refused line, or what the run came to.
 use Rattle.dryrun.specs.Entry.{RunReturns}
 use Rattle.placement.proofs.Exits.{run_stopped, run_answered}
-use borrow.Author.Rules.{rules}
 use Rattle.placement.proofs.run_text.Goals as goal
 
 pub returns-then-answer-lt-ANSWER : goal.returns-then-answer-lt-ANSWER
