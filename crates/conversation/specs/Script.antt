@@ -75,7 +75,7 @@ run_with (budget ∷ numbers) = run budget numbers
 unfoldable pub run_of : List ℕ → Command
 run_of s = run_with (arguments_of (front_words 66 s))
 
--- `add LINE` ("one blank, then the line's bytes, any bytes"), `redeclare P CODE`, `take_back`, `infer`, `schemes LINES` ("one blank, then a
+-- `add LINE` ("one blank, then the line's bytes, any bytes"), `redeclare P CODE`, `take-back`, `infer`, `schemes LINES` ("one blank, then a
 -- scheme file's lines, parted by blanks"), `run BUDGET NUMBER NUMBER ..`; every other line is no command.
 unfoldable pub command_of : List ℕ → Command
 command_of s =
@@ -93,7 +93,7 @@ pub data Makes : Command → Call → Type 0 where
   takes_back : Makes take_back Call.take_back
   infers : {buffer : List ℕ} → 6280 ≤ length buffer → Makes infer (Call.infer buffer)
 
--- "An add, redeclare or take_back prints its number; an accepted infer prints the report, a refused one `NO,number,row`".
+-- "An add, redeclare or take-back prints its number; an accepted infer prints the report, a refused one `NO,number,row`".
 abbrev pub answer : Call → Outcome → List ℕ
 answer (Call.add s) o = line (decimal o.number ∷ [])
 answer (Call.redeclare p code) o = line (decimal o.number ∷ [])

@@ -103,7 +103,7 @@ every_list_answered_of_tables = list_has_answers
 pub every_list_answered : (calls : List Call) → ∥ ((trace : List (Call × Outcome)) × (map (λ step. step.0) trace ≡ calls) × Session (fresh_machine six_table) trace) ∥₁
 every_list_answered = list_has_answers six_table six_sound
 
--- Demand 2. "The table is the one that the accepted calls describe, redeclare and take_back included": every call of every list is answered
+-- Demand 2. "The table is the one that the accepted calls describe, redeclare and take-back included": every call of every list is answered
 -- for the machine that the accepted calls before it describe, and leaves the one that they describe together with it.
 pub demand_2_table : {T : SchemeTable} {call : Call} {o : Outcome} (before rest : List (Call × Outcome)) → Session (fresh_machine T) (before ++ ((call, o) ∷ rest)) →
     Answers (standing (fresh_machine T) before) call o (standing (fresh_machine T) (before ++ ((call, o) ∷ [])))
@@ -120,7 +120,7 @@ pub demand_2 : {T : SchemeTable} {call : Call} {o : Outcome} (before rest : List
     × ((buffer : List ℕ) → call ≡ infer buffer → o.number ≡ 0 → ReportsTyping (standing (fresh_machine T) before) buffer o)
 demand_2 before rest session = let answer = session_standing before rest session in (answer, answered_reports answer)
 
--- Demand 3. Every list of add, redeclare, take_back and infer calls from a fresh table, with any bytes, numbers and buffers, accepted or
+-- Demand 3. Every list of add, redeclare, take-back and infer calls from a fresh table, with any bytes, numbers and buffers, accepted or
 -- refused, each given the table that the one before it handed back: the whole list's answers are those of document 01.
 -- `Ran` holds of a list exactly what the contracts of the four functions say of its calls. Document 02, d): "Demand 3 as a whole is shown one time
 -- for every accepted scheme table, and the built-in six are one instance"; `Table::fresh` ensures the premise of that instance.

@@ -46,7 +46,7 @@ pub data Breaks (m : Machine) : Call → ℕ → Type 0 where
   both_children : {s : List ℕ} {i c : ℕ} {term : Term} → read_by m s ≡ TermLine i term → children term ≡ c ∷ c ∷ [] → Breaks m (add s) 7
   -- 8: "LAM of a parameter already bound"
   already_bound : {s : List ℕ} {i p b : ℕ} → read_by m s ≡ TermLine i (Lam p b) → bound m.terms p ≡ true → Breaks m (add s) 8
-  -- 9: "take_back with no term row"
+  -- 9: "take-back with no term row"
   without_term_row : m.terms ≡ [] → Breaks m take_back 9
   -- 12: "redeclare with a code above 70", document 02, d): "for a code above the last variable's"
   code_above : {p code : ℕ} → words m.schemes + 64 ≤ code → Breaks m (redeclare p code) 12

@@ -118,7 +118,7 @@ fn again<C: Clock>(clock: &C, error: Error) -> bool {
     }
 }
 
-// Waits for a millisecond, or less where a signal ends the wait.
+// Waits for a millisecond.
 fn pause<C: Clock>(clock: &C) {
     thread::sleep(clock, Duration::from_millis(1));
 }
