@@ -7,9 +7,11 @@ use mathlib.Core.Path.{◌≡◌, refl, ap, ◌∙◌}
 use lib.Dec.{eqb}
 use lib.ListN.{length, get_or, take, replicate, length-map}
 use borrow.Author.Tests.{eqb-true}
-use denote.Struct.Field.{u8-field, bool-field, array_field}
+use mir.Syntax.{w8}
+use mir.Val.{vint, vbool}
+use denote.Array.{Array}
+use denote.Builtin.{u8, bool}
 use denote.Struct.Laws as Struct
-use denote.Struct.Laws.{u8-laws, bool-laws, array_laws}
 use Rattle.scheme.specs.Lists.{all_of}
 use Rattle.scheme.specs.Schemes.{SchemeTable, is_name, Sound}
 use Rattle.scheme.proofs.Every.{and_left, and_right}
@@ -26,7 +28,7 @@ use Rattle.schemes.proofs.Schemes.TheLaws as SchemesLaws
 use Rattle.answered.proofs.Entries.{filled, take_filled}
 use Rattle.answered.proofs.Names.{fields_joined, joined_length, joined_bytes}
 use Rattle.answered.proofs.Rules.{rule_of, rule_length, rule_ruled, rule_bytes}
-use Rattle.answered.proofs.Arrays.{Held, array_held, filled_held}
+use Rattle.answered.proofs.Arrays.{Held, array_of, array_held, filled_held}
 
 abbrev bits_of : List Bool → Bits
 bits_of digits = record { bits = digits }
@@ -61,11 +63,11 @@ five_each [] h i below = absurd (omega arith)
 five_each (digits ∷ rows) h zero below = eqb-true (length digits) 5 (and_left _ (all_of (λ b. eqb (length b) 5) rows) h)
 five_each (digits ∷ rows) h (suc i) below = five_each rows (and_right (eqb (length digits) 5) _ h) i (omega arith)
 
-byte_held : (b : ℕ) → b < 256 → Held u8-field u8-laws b
+byte_held : (b : ℕ) → b < 256 → Held u8 (vint w8) b
 byte_held b h = (refl, omega arith)
 
-bits_held : (b : Bits) → length b.bits ≡ 5 → Held BitsType.the_field BitsLaws.the_field_laws b
-bits_held b five = Struct.owes BitsType.the_type BitsLaws.the_laws b (array_held bool-field bool-laws false 5 b.bits five (λ i. refl), tt)
+bits_held : (b : Bits) → length b.bits ≡ 5 → Held BitsType.the_row (Struct.val BitsType.the_type BitsLaws.the_laws) b
+bits_held b five = Struct.owes BitsType.the_type BitsLaws.the_laws b (array_held bool vbool false 5 b.bits five (λ i. refl), tt)
 
 -- The bytes give the table back, are kept with its ruling, and fit their arrays.
 module _ {T : SchemeTable} (sound : Sound T) where
@@ -82,18 +84,18 @@ module _ {T : SchemeTable} (sound : Sound T) where
   rows_fit : length (map bits_of T.bits) ≤ 8
   rows_fit = omega (arith, length-map T.bits bits_of, sound.counted, sound.few)
 
-  names_held : Held (array_field u8-field 47) (array_laws u8-field u8-laws 47) (bytes_of T).names
-  names_held = filled_held u8-field u8-laws 0 47 (joined T.names) joined_fits (byte_held 0 (omega arith)) (λ i h. byte_held _ (joined_bytes T.names sound.named i))
+  names_held : Held (Array u8 47) (array_of (vint w8)) (bytes_of T).names
+  names_held = filled_held u8 (vint w8) 0 47 (joined T.names) joined_fits (byte_held 0 (omega arith)) (λ i h. byte_held _ (joined_bytes T.names sound.named i))
 
-  rows_held : Held (array_field BitsType.the_field 8) (array_laws BitsType.the_field BitsLaws.the_field_laws 8) (bytes_of T).bits
+  rows_held : Held (Array BitsType.the_row 8) (array_of (Struct.val BitsType.the_type BitsLaws.the_laws)) (bytes_of T).bits
   rows_held =
-      filled_held BitsType.the_field BitsLaws.the_field_laws no_bits 8 (map bits_of T.bits) rows_fit (bits_held no_bits refl)
+      filled_held BitsType.the_row (Struct.val BitsType.the_type BitsLaws.the_laws) no_bits 8 (map bits_of T.bits) rows_fit (bits_held no_bits refl)
       (λ i h. bits_held (get_or (map bits_of T.bits) i no_bits) (five_each T.bits sound.five i h))
 
-  rule_held : Held (array_field u8-field 88) (array_laws u8-field u8-laws 88) (bytes_of T).rule
-  rule_held = array_held u8-field u8-laws 0 88 (rule_of T) (rule_length T) (λ i. byte_held _ (rule_bytes T sound.few i))
+  rule_held : Held (Array u8 88) (array_of (vint w8)) (bytes_of T).rule
+  rule_held = array_held u8 (vint w8) 0 88 (rule_of T) (rule_length T) (λ i. byte_held _ (rule_bytes T sound.few i))
 
-  pub bytes_held : Held SchemesType.the_field SchemesLaws.the_field_laws (bytes_of T)
+  pub bytes_held : Held SchemesType.the_row (Struct.val SchemesType.the_type SchemesLaws.the_laws) (bytes_of T)
   bytes_held =
       Struct.owes SchemesType.the_type SchemesLaws.the_laws (bytes_of T)
       (names_held, ((refl, omega (arith, joined_fits)), (rows_held, ((refl, omega (arith, rows_fit)), (rule_held, tt)))))

@@ -4,9 +4,8 @@ use native.Mathlib.Omega.{arith}
 use mathlib.Core.Path.{◌≡◌, refl}
 use lib.ListN.{length, get_or}
 use denote.Laws.{Is}
-use denote.Struct.Field.{array_field}
+use denote.Array.{Array}
 use denote.Struct.Laws as Struct
-use denote.Struct.Laws.{array_laws}
 use denote.Enum.Laws as Enum
 use Rattle.scheme.specs.Schemes.{words}
 use Rattle.scheme.proofs.Schemes.{sound_few}
@@ -36,7 +35,7 @@ use Rattle.table.specs.contracts.Table as TableType
 use Rattle.table.proofs.Table.TheLaws as TableLaws
 use Rattle.table.proofs.Counts.{Owned}
 use Rattle.answered.proofs.Entries.{filled, take_filled}
-use Rattle.answered.proofs.Arrays.{Held, filled_held}
+use Rattle.answered.proofs.Arrays.{Held, array_of, filled_held}
 use Rattle.answered.proofs.Bytes.{bytes_of, table_in_lem, bytes_kept, bytes_held}
 use Rattle.answered.proofs.Literals.{Literal, Literals}
 
@@ -49,10 +48,10 @@ module _ (w : ℕ) (few : w ≤ 9) where
       Enum.owes TypeFormType.the_type TypeFormLaws.the_laws (Arrow q t q' t')
       ((refl, omega arith), ((refl, omega arith), ((refl, omega arith), ((refl, omega arith), tt))))
 
-  type_held : (i : ℕ) → i < 64 → (row : TypeRow) → TypeStands w i row.form → Held TypeRowType.the_field TypeRowLaws.the_field_laws row
+  type_held : (i : ℕ) → i < 64 → (row : TypeRow) → TypeStands w i row.form → Held TypeRowType.the_row (Struct.val TypeRowType.the_type TypeRowLaws.the_laws) row
   type_held i below row h = Struct.owes TypeRowType.the_type TypeRowLaws.the_laws row (form_held i below row.form h, tt)
 
-  param_held : (types : ℕ) → types ≤ 64 → (param : Param) → ParamStands w types param → Held ParamType.the_field ParamLaws.the_field_laws param
+  param_held : (types : ℕ) → types ≤ 64 → (param : Param) → ParamStands w types param → Held ParamType.the_row (Struct.val ParamType.the_type ParamLaws.the_laws) param
   param_held types fit param h = Struct.owes ParamType.the_type ParamLaws.the_laws param ((refl, omega arith), ((refl, omega arith), ((refl, omega arith), tt)))
 
   term_held : (params i : ℕ) → params ≤ 64 → i < 256 → (term : Term) → TermStands w params i term → Literal term → Is TermType.the_row term (Enum.vals TermType.the_type TermLaws.the_laws term)
@@ -63,7 +62,7 @@ module _ (w : ℕ) (few : w ≤ 9) where
   term_held params i fit below (Num n) h l = Enum.owes TermType.the_type TermLaws.the_laws (Num n) ((refl, omega arith), tt)
   term_held params i fit below (Enc s n) h l = Enum.owes TermType.the_type TermLaws.the_laws (Enc s n) ((refl, omega arith), ((refl, omega arith), tt))
 
-  row_held : (params i : ℕ) → params ≤ 64 → i < 256 → (row : TermRow) → TermStands w params i row.term → Literal row.term → Held TermRowType.the_field TermRowLaws.the_field_laws row
+  row_held : (params i : ℕ) → params ≤ 64 → i < 256 → (row : TermRow) → TermStands w params i row.term → Literal row.term → Held TermRowType.the_row (Struct.val TermRowType.the_type TermRowLaws.the_laws) row
   row_held params i fit below row h l = Struct.owes TermRowType.the_type TermRowLaws.the_laws row (term_held params i fit below row.term h l, tt)
 
 -- The table in which a machine stands.
@@ -94,22 +93,22 @@ module _ (m : Machine) (w : WellFormed m) where
   few_words : words m.schemes ≤ 9
   few_words = sound_few w.schemes_sound
 
-  types_held : Held (array_field TypeRowType.the_field 64) (array_laws TypeRowType.the_field TypeRowLaws.the_field_laws 64) (table_of m).types
+  types_held : Held (Array TypeRowType.the_row 64) (array_of (Struct.val TypeRowType.the_type TypeRowLaws.the_laws)) (table_of m).types
   types_held =
-      filled_held TypeRowType.the_field TypeRowLaws.the_field_laws no_type_row 64 m.types w.types_fit
+      filled_held TypeRowType.the_row (Struct.val TypeRowType.the_type TypeRowLaws.the_laws) no_type_row 64 m.types w.types_fit
       (type_held 1 (omega arith) 0 (omega arith) no_type_row tt)
       (λ i h. type_held (words m.schemes) few_words i (omega (arith, w.types_fit)) (get_or m.types i no_type_row) (w.types_stand i h))
 
-  params_held : Held (array_field ParamType.the_field 64) (array_laws ParamType.the_field ParamLaws.the_field_laws 64) (table_of m).params
+  params_held : Held (Array ParamType.the_row 64) (array_of (Struct.val ParamType.the_type ParamLaws.the_laws)) (table_of m).params
   params_held =
-      filled_held ParamType.the_field ParamLaws.the_field_laws no_param 64 m.params w.params_fit
+      filled_held ParamType.the_row (Struct.val ParamType.the_type ParamLaws.the_laws) no_param 64 m.params w.params_fit
       (param_held 1 (omega arith) 1 (omega arith) no_param (omega arith, omega arith, omega arith))
       (λ i h. param_held (words m.schemes) few_words (length m.types) w.types_fit (get_or m.params i no_param) (w.params_stand i h))
 
   module _ (literals : Literals m) where
-    terms_held : Held (array_field TermRowType.the_field 256) (array_laws TermRowType.the_field TermRowLaws.the_field_laws 256) (table_of m).terms
+    terms_held : Held (Array TermRowType.the_row 256) (array_of (Struct.val TermRowType.the_type TermRowLaws.the_laws)) (table_of m).terms
     terms_held =
-        filled_held TermRowType.the_field TermRowLaws.the_field_laws no_term_row 256 m.terms w.terms_fit
+        filled_held TermRowType.the_row (Struct.val TermRowType.the_type TermRowLaws.the_laws) no_term_row 256 m.terms w.terms_fit
         (row_held 1 (omega arith) 1 1 (omega arith) (omega arith) no_term_row (omega arith, omega arith) tt)
         (λ i h.
         row_held (words m.schemes) few_words (length m.params) i w.params_fit (omega (arith, w.terms_fit)) (get_or m.terms i no_term_row) (w.terms_stand i h) (literals i))

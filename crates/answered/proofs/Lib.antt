@@ -1,4 +1,5 @@
 pub mod Judgements
+mod Linking
 pub mod Existence
 pub mod Entries
 pub mod Names

@@ -3,3 +3,4 @@ pub mod Gathering
 pub mod Scope
 pub mod Walk
 pub mod Answers
+pub mod Linkage

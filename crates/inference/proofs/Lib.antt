@@ -4,3 +4,4 @@ pub mod Follows
 pub mod Corollaries
 pub mod Contracts
 pub mod Printing
+pub mod Linkage

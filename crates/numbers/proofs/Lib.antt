@@ -2,3 +2,4 @@ pub mod Feeding
 pub mod Ends
 pub mod Passes
 pub mod OnePass
+pub mod Linkage

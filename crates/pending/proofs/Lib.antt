@@ -1,3 +1,4 @@
 pub mod Sweeping
 pub mod Gathering
 pub mod Fixing
+pub mod Linkage

@@ -8,3 +8,4 @@ pub mod Meets
 pub mod Operation
 pub mod Codes
 pub mod Rule
+pub mod Linkage

@@ -7,3 +7,4 @@ pub mod Written
 pub mod Entries
 pub mod Six
 pub mod Opening
+pub mod Linkage

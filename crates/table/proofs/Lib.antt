@@ -6,3 +6,4 @@ pub mod Stored
 pub mod Codes
 pub mod WellFormed
 pub mod Follows
+pub mod Linkage

@@ -1,6 +1,5 @@
 -- The buffer is long enough, so that what infer answers is what is judged.
 use native.Mathlib.Omega.{arith}
-use borrow.Author.Rules.{rules}
 use lib.ListN.{length-replicate}
 use Rattle.answered.proofs.Judgements.{judged_by}
 use Rattle.answered.proofs.judge.Goals as goal
