@@ -7,7 +7,7 @@ use mathlib.Core.Path.{◌≡◌, refl, sym, ap, ap₂, subst, ◌∙◌}
 use lib.Dec.{eqb, leb}
 use lib.ListN.{length, length-map, get_or}
 use Rattle.scheme.specs.Schemes.{SchemeTable, Sound}
-use Rattle.model.specs.Lists.{same, bytes}
+use Rattle.model.specs.Lists.{bytes}
 use Rattle.model.specs.Number.{number_of}
 use Rattle.model.specs.Word.{qualifier_words, capitals, spells, or_else, word_of, qualifier_of, scheme_of, operation_of}
 use Rattle.model.specs.Line.{fields, field, floor, choose, exactly, int_line, any_line, arrow_line, param_line, lam_line, app_line, op_line, var_line, num_line, enc_line, type_line, leaf_line, term_line, line_of}
@@ -72,17 +72,21 @@ added_alike : (m : Machine) {s t : List ℕ} → SameButCase s t → added m s �
 unfolding added
 added_alike m alike = ap (entered m) (lines_alike m.schemes.names alike)
 
+add_alike : (m : Machine) (s t : List ℕ) {o : Outcome} {after : Machine} → SameButCase s t → Answers m (add s) o after → Answers m (add t) o after
+add_alike m s t alike adds = subst (λ (change : Change). Answers m (add t) (returning change.number) change.machine) (sym (added_alike m alike)) adds
+
 answers_alike : {m after : Machine} {call call' : Call} {o : Outcome} → SameCallButCase call call' → Answers m call o after → Answers m call' o after
 answers_alike same_call a = a
-answers_alike {m} (both_add {t = t} alike) adds =
-    subst (λ (change : Change). Answers m (add t) (returning change.number) change.machine) (sym (added_alike m alike)) adds
+answers_alike {m} (both_add {s} {t} alike) a = add_alike m s t alike a
 
 pub session_alike : {m : Machine} → Sound m.schemes → (trace trace' : List (Call × Outcome)) →
     InTurn SameCallButCase (calls_of trace) (calls_of trace') → Session m trace → Session m trace' → outcomes_of trace ≡ outcomes_of trace'
 session_alike sound [] [] none done done = refl
-session_alike {m} sound ((call, o) ∷ rest) ((call', o') ∷ rest') (next alike more) (Session.next a steps) (Session.next a' steps') =
+session_alike {m = m} sound [] (_ ∷ rest') x8 _ _ = elim x8 [ ]
+session_alike {m = m} sound ((call, o) ∷ rest) [] x12 _ _ = elim x12 [ ]
+session_alike {m} sound ((call, o) ∷ rest) ((call', o') ∷ rest') (next alike more) (Session.next {after} a steps) (Session.next a' steps') =
     let same = answers_same sound (answers_alike alike a) a' in
-    ap₂ ◌∷◌ same.0 (session_alike (subst Sound (sym (answers_keep m a)) sound) rest rest' more steps (subst (λ (m : Machine). Session m rest') (sym same.1) steps'))
+    ap₂ ◌∷◌ same.0 (session_alike {m = after} (subst Sound (sym (answers_keep m a)) sound) rest rest' more steps (subst (λ (m : Machine). Session m rest') (sym same.1) steps'))
 
 -- And loaded alike.
 loads_alike : (m : Machine) (n : ℕ) {lines lines' : List (List ℕ)} → InTurn SameButCase lines lines' → load_from m n lines ≡ load_from m n lines'

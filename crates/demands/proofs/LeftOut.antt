@@ -4,7 +4,7 @@ use native.Mathlib.Omega.{arith}
 use mathlib.Core.Bool.{Bool, true, false, not, cond, false≢true}
 use mathlib.Core.List.{List, [], ◌∷◌, ◌++◌}
 use mathlib.Core.Path.{◌≡◌, refl, sym, ap, subst, ◌∙◌}
-use lib.Dec.{ltb}
+use lib.Dec.{eqb, ltb}
 use lib.ListN.{length}
 use borrow.Author.Tests.{ltb-true}
 use Rattle.scheme.specs.Schemes.{SchemeTable, words, Sound}
@@ -15,7 +15,7 @@ use Rattle.model.specs.WellFormed.{WellFormed}
 use Rattle.model.specs.Session.{Call, add, redeclare, take_back, infer, Outcome, Infers, short, refused, accepted, Answers, adds, redeclares, takes_back, infers, Session, next}
 use Rattle.model.proofs.Names.{names_without}
 use Rattle.table.proofs.WellFormed.{fresh_well_formed, answers_well_formed}
-use Rattle.demands.specs.Standing.{standing}
+use Rattle.demands.specs.Standing.{described, standing}
 use Rattle.demands.specs.Scripts.{Spelled, unspelled_numbers}
 use Rattle.demands.proofs.Refusals.{added_none}
 use Rattle.demands.proofs.Exactly.{refused_exactly}
@@ -26,7 +26,7 @@ use Rattle.demands.proofs.LineFeed.{feed_no_form}
 standing_well_formed : {m : Machine} (before rest : List (Call × Outcome)) → WellFormed m → Session m (before ++ rest) → WellFormed (standing m before)
 standing_well_formed [] rest w session = w
 standing_well_formed {m} ((call, o) ∷ before) rest w (next a session) =
-    standing_well_formed before rest
+    standing_well_formed {m = cond (eqb o.number 0) (described m call) m} before rest
     (subst WellFormed (answers_described a) (answers_well_formed m w a))
     (subst (λ (after : Machine). Session after (before ++ rest)) (answers_described a) session)
 

@@ -28,7 +28,7 @@ load_rest {m'} m n s rest = by (eqb (added m s).number 0)
     by true e = e
     by false e = let z : ◌≡◌ {A = ℕ} 0 1 = cc in absurd (omega arith)
 
-adds_leave : {m after : Machine} {s : List ℕ} {o : Outcome} → Answers m (add s) o after → after ≡ (added m s).machine
+adds_leave : {m : Machine} {s : List ℕ} {after : Machine} {o : Outcome} → Answers m (add s) o after → after ≡ (added m s).machine
 adds_leave adds = refl
 
 session_from : {m m' : Machine} (n : ℕ) (lines : List (List ℕ)) (trace rest : List (Call × Outcome)) →
@@ -39,7 +39,7 @@ session_from n (s ∷ lines) [] rest calls loads session = let z : ◌≡◌ {A 
 session_from {m} n (s ∷ lines) ((call, o) ∷ trace) rest calls loads (next {after = after} a session) =
     let same : call ≡ add s = cc in
     let leaves : after ≡ (added m s).machine = adds_leave (subst (λ (c : Call). Answers m c o after) same a) in
-    session_from (n + 1) lines trace rest (cc) (load_rest m n s lines loads) (subst (λ (m : Machine). Session m (trace ++ rest)) leaves session)
+    session_from {m = (added m s).machine} (n + 1) lines trace rest (cc) (load_rest m n s lines loads) (subst (λ (m : Machine). Session m (trace ++ rest)) leaves session)
 
 -- After the adds of a text, the list goes on from the machine that the text loads as.
 pub session_loaded : {m : Machine} (T : SchemeTable) (text : List ℕ) (trace rest : List (Call × Outcome)) →

@@ -2,20 +2,18 @@
 use Prim.Native.Nat.{ℕ, zero, suc, ◌+◌, ◌<◌, ◌≤◌}
 use native.Mathlib.Omega.{arith}
 use mathlib.Core.List.{List}
-use mathlib.Core.Path.{◌≡◌, refl, sym, ap, subst, ◌∙◌}
-use lib.Dec.{ltb}
+use mathlib.Core.Path.{◌≡◌, refl, sym, subst, ◌∙◌}
 use lib.ListN.{length}
 use borrow.Author.Tests.{lt-ltb}
 use Rattle.model.specs.Machine.{Machine, param_at}
 use Rattle.model.specs.Closed.{Closed}
 use Rattle.model.specs.WellFormed.{WellFormed}
-use Rattle.model.specs.Typing.{Ty, int, arrow, Rules, Assignment, PlainArrows, Typable}
+use Rattle.model.specs.Typing.{Ty, Assignment, PlainArrows, Typable}
 use Rattle.model.specs.Strength.{Schemes, whole, unordered}
 use Rattle.model.specs.Inference.{ruling, Slot, variable, param, row, Listed, slot_qualifier, type_of, IsArrow, is_arrow, Shape, Types, ShapeSays, GreatestTyping, Cause, Refusal}
 use Rattle.model.specs.Session.{Outcome, Infers}
 use Rattle.model.proofs.Fewer.{typable_fewer}
 use Rattle.model.proofs.Unique.{Lawful}
-use Rattle.model.proofs.Lawful.{sound_lawful}
 use Rattle.readings.proofs.Lines.{first_row_typable}
 use Rattle.inference.proofs.Corollaries.{refused_untypable, untypable_refused}
 
@@ -26,6 +24,7 @@ head_plain is_arrow plain = plain.0
 module _ (S : Schemes) (lawful : Lawful S) (some : 0 < S.words) {m : Machine} where
   -- A typing gives PLAIN to each slot that it makes a function.
   slot_plain : (s : Assignment S.Q) → Types S m s → (x : Slot) → Listed S m x → IsArrow (type_of s x) → slot_qualifier s x ≡ S.word 0
+  slot_plain s typing (variable _) l is = elim is [ ]
   slot_plain s typing (param p) l is = head_plain is (typing.functions.params p l)
   slot_plain s typing (row i) l is = head_plain is (typing.functions.rows i l l)
 

@@ -14,7 +14,6 @@ use Rattle.scheme.proofs.Six.{six_sound}
 use Rattle.model.specs.Number.{decimal}
 use Rattle.model.specs.Word.{qualifier_word}
 use Rattle.model.specs.Machine.{Machine, first_failing, settled, redeclared}
-use Rattle.model.specs.Typing.{int}
 use Rattle.model.specs.Inference.{Slot, Shape}
 use Rattle.model.specs.Report.{line, lines, variable_line, param_line, row_line, report}
 use Rattle.model.specs.Session.{redeclare, infer, Outcome, reporting, Infers, redeclares, infers, Session, next}
@@ -72,7 +71,7 @@ report_is : {o : Outcome} {out : List ℕ} (buffer : List ℕ) → o ≡ reporti
 report_is {out = out} buffer is = ap report_in is ∙ take-append_seam out (drop (length out) buffer)
 
 -- What is inferred before a redeclare and after it.
-inferred_both : {m : Machine} {buffer buffer' : List ℕ} {first changed second : Outcome} {p code : ℕ} →
+inferred_both : {m : Machine} {buffer buffer' : List ℕ} {p code : ℕ} {first changed second : Outcome} →
     Session m ((infer buffer, first) ∷ (redeclare p code, changed) ∷ (infer buffer', second) ∷ []) → Infers m buffer first × Infers (redeclared m p code).machine buffer' second
 inferred_both (next (infers i) (next redeclares (next (infers i') rest))) = (i, i')
 

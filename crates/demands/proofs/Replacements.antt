@@ -59,9 +59,12 @@ refused_10_excluded (short h) closed e = omega arith
 refused_10_excluded {buffer = buffer} (refused long j z) closed e = (open_exactly {buffer = buffer} (refused long j z) long).0 e closed
 refused_10_excluded (accepted long j) closed e = omega arith
 
+one_more_entry : (m : Machine) (s : List ℕ) {o : Outcome} {after : Machine} → Answers m (add s) o after → o.number ≡ 0 → ¬ (after ≡ m)
+one_more_entry m s adds e same = omega (arith, added_longer m s e, ap entries same)
+
 -- "An add that stores nothing: demand 2."
 pub add_that_stores_nothing_excluded : {m after : Machine} {s : List ℕ} {o : Outcome} → Answers m (add s) o after → o.number ≡ 0 → ¬ (after ≡ m)
-add_that_stores_nothing_excluded {m} {s = s} adds e same = omega (arith, added_longer m s e, ap entries same)
+add_that_stores_nothing_excluded {m} {s = s} a = one_more_entry m s a
 
 -- "An OK line with invented counts: demand 2, as they are the lists' lengths."
 pub invented_counts_excluded : {m : Machine} {buffer : List ℕ} {o : Outcome} (a b : ℕ) (rest : List ℕ) → Infers m buffer o → o.number ≡ 0 →

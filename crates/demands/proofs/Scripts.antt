@@ -15,7 +15,6 @@ use Rattle.model.specs.Machine.{Machine, Change, fresh_machine}
 use Rattle.model.specs.SchemeFile.{opened}
 use Rattle.model.specs.Report.{line}
 use Rattle.model.specs.Session.{Call, add, redeclare, take_back, infer, Outcome, Answers, Session}
-use Rattle.model.specs.Session as Session
 use Rattle.model.specs.Text.{lines_of}
 use Rattle.conversation.specs.Script.{Command, command_of, before_blank, after_blank, argument, redeclare_of, Makes, answer, restarted, ran_line, unknown, Replies, Dialogue, Conversation, largest, Responds}
 use Rattle.conversation.specs.Script as Script
@@ -27,6 +26,7 @@ use Rattle.tokens.proofs.RoundTrip.{number_of_decimal}
 use Rattle.starred.specs.Starred.{All}
 use Rattle.demands.specs.Traces.{calls_of}
 use Rattle.demands.specs.InTurn.{InTurn}
+use Rattle.demands.specs.Standing.{standing}
 use Rattle.demands.specs.Scripts.{Transcript, OneList, ListsInTurn, HandsBack, InSessions, OneSession, StaysOn, command_for, Spelled, script_of, answers_of, Alike, same_call, both_infer}
 use Rattle.demands.proofs.Standing.{answers_described}
 use Rattle.demands.proofs.Without.{first_other, rest_without, without_both, before_all, decimal_without}
@@ -92,13 +92,13 @@ dialogue_lists (Dialogue.next (Replies.passes e) d) = in_front unknown (λ rest 
 -- Lines that start no other table are one list.
 dialogue_list : {m : Machine} {lines : List (List ℕ)} {answers : List ℕ} → All StaysOn lines → Dialogue m lines answers → OneList m lines answers
 dialogue_list All.[]ᴬ Dialogue.end = no_line
-dialogue_list (All.◌∷ᴬ◌ stays more) (Dialogue.next (Replies.calls makes a) d) = call_first makes a (dialogue_list more d)
+dialogue_list {m} (All.◌∷ᴬ◌ stays more) (Dialogue.next {after} (Replies.calls makes a) d) = call_first makes a (dialogue_list {m = after} more d)
 dialogue_list {m} (All.◌∷ᴬ◌ stays more) (Dialogue.next {s} {rest} {answers} (Replies.restarts {file} e) d) =
     let is = restart_refused m file (stays file e) in
     subst (λ (c : Change). OneList m (s ∷ rest) (line (decimal c.number ∷ []) ++ answers)) (sym is)
-    (refused_first (subst (λ (c : Change). OneList c.machine rest answers) is (dialogue_list more d)) e (stays file e))
-dialogue_list (All.◌∷ᴬ◌ stays more) (Dialogue.next (Replies.runs e r) d) = run_first (dialogue_list more d) e r
-dialogue_list (All.◌∷ᴬ◌ stays more) (Dialogue.next (Replies.passes e) d) = unknown_first (dialogue_list more d) e
+    (refused_first (subst (λ (c : Change). OneList c.machine rest answers) is (dialogue_list {m = (restarted m file).machine} more d)) e (stays file e))
+dialogue_list {m} (All.◌∷ᴬ◌ stays more) (Dialogue.next (Replies.runs e r) d) = run_first (dialogue_list {m = m} more d) e r
+dialogue_list {m} (All.◌∷ᴬ◌ stays more) (Dialogue.next (Replies.passes e) d) = unknown_first (dialogue_list {m = m} more d) e
 
 module _ {script output : List ℕ} where
   -- The conversation that the entry held, and what it handed back.
@@ -168,7 +168,8 @@ makes_alike (Makes.infers long) (Makes.infers long') = both_infer long long'
 lines_alike : {m : Machine} {calls : List Call} {trace : List (Call × Outcome)} {answers : List ℕ} →
     All Spelled calls → Transcript m (map command_for calls) trace answers → InTurn Alike calls (calls_of trace)
 lines_alike All.[]ᴬ Transcript.end = InTurn.none
-lines_alike (All.◌∷ᴬ◌ {x = call} spelled more) (Transcript.calls makes rest) = InTurn.next (makes_alike (spelled_makes call spelled) makes) (lines_alike more rest)
+lines_alike {m} (All.◌∷ᴬ◌ {x = call} spelled more) (Transcript.calls {call = call'} {o} makes rest) =
+    InTurn.next (makes_alike (spelled_makes call spelled) makes) (lines_alike {m = standing m ((call', o) ∷ [])} more rest)
 lines_alike (All.◌∷ᴬ◌ {x = call} spelled more) (Transcript.refuses e z rest) = absurd (not_schemes (spelled_makes call spelled) e)
 lines_alike (All.◌∷ᴬ◌ {x = call} spelled more) (Transcript.runs e r rest) = absurd (not_run (spelled_makes call spelled) e)
 lines_alike (All.◌∷ᴬ◌ {x = call} spelled more) (Transcript.passes e rest) = absurd (not_made (spelled_makes call spelled) e)

@@ -31,5 +31,5 @@ answers_described {m} {o = o} (infers i) = either_same (eqb o.number 0) m
 pub session_standing : {m : Machine} {call : Call} {o : Outcome} (before rest : List (Call × Outcome)) →
     Session m (before ++ ((call, o) ∷ rest)) → Answers (standing m before) call o (standing m (before ++ ((call, o) ∷ [])))
 session_standing {m} {call} {o} [] rest (next a s) = subst (λ (after : Machine). Answers m call o after) (answers_described a) a
-session_standing {call = call} {o} ((call', o') ∷ before) rest (next a s) =
-    session_standing before rest (subst (λ (after : Machine). Session after (before ++ ((call, o) ∷ rest))) (answers_described a) s)
+session_standing {m} {call} {o} ((call', o') ∷ before) rest (next a s) =
+    session_standing {m = cond (eqb o'.number 0) (described m call') m} before rest (subst (λ (after : Machine). Session after (before ++ ((call, o) ∷ rest))) (answers_described a) s)

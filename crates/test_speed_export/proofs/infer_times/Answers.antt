@@ -1,9 +1,8 @@
 -- The loop only counts, and the buffer keeps its length.
-use Prim.Native.Nat.{ℕ, ◌-◌, ◌≤◌}
+use Prim.Native.Nat.{ℕ}
 use native.Mathlib.Omega.{arith}
-use mathlib.Core.Path.{◌≡◌, sym}
-use lib.ListN.{length, length-replicate}
-use borrow.Author.Rules.{rules}
+use mathlib.Core.Path.{sym}
+use lib.ListN.{length-replicate}
 use Rattle.test_speed_export.proofs.infer_times.Goals as goal
 
 pub loop-i-init : goal.loop-i-init

@@ -1,9 +1,7 @@
 -- The loop only counts, and the buffer keeps its length.
-use Prim.Native.Nat.{ℕ, ◌-◌, ◌≤◌}
-use native.Mathlib.Omega.{arith}
-use mathlib.Core.Path.{◌≡◌, sym}
-use lib.ListN.{length, length-replicate}
-use borrow.Author.Rules.{rules}
+use Prim.Native.Nat.{◌-◌, ◌≤◌}
+use mathlib.Core.Path.{◌≡◌}
+use lib.ListN.{length}
 use Rattle.test_speed_export.proofs.infer_times.Given as goal
 
 abbrev pub invariant-loop-i : goal.invariant-loop-i

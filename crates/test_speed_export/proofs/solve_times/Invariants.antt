@@ -1,6 +1,5 @@
 -- The loop only counts.
 use Prim.Native.Nat.{◌-◌, ◌≤◌}
-use borrow.Author.Rules.{rules}
 use Rattle.test_speed_export.proofs.solve_times.Given as goal
 
 abbrev pub invariant-loop-i : goal.invariant-loop-i
