@@ -31,14 +31,14 @@ extern "C" {
 #define PLACEMENT_SCHEMES_LENGTH 113
 
 /*
- * Stack to have free for a call of placement_report or placement_report_under, in bytes. Measured: 31,000 for ordinary tables, 60,000 for the
+ * Stack to have free for a call of placement_report or placement_report_under, in bytes. Measured: 31,600 for ordinary tables, 47,800 for the
  * deepest types found. Nothing proves a bound; kit/test measures all calls anew and holds them to this number and the next.
  */
 #define PLACEMENT_STACK_LENGTH 131072
 
 /*
- * The same for placement_run and placement_run_under, and for placement_session where its script has the command run. Measured: 175,000 for
- * ordinary tables and 204,000 for the deepest types found, in a session 202,000 and 232,000; in one without a run 58,000 and 88,000.
+ * The same for placement_run and placement_run_under, and for placement_session where its script has the command run. Measured: 175,800 for
+ * ordinary tables and 192,000 for the deepest types found, in a session 214,900 and 231,200.
  */
 #define PLACEMENT_RUN_STACK_LENGTH 393216
 

@@ -73,7 +73,7 @@ broken_checked (Breaks.no_typing {buffer = buffer} refusal) = cause_checked buff
 broken_checked (Breaks.floors_missed none) = refl
 
 -- Where every condition that is broken gives the number or a later one, none that is checked before the number is broken.
-module _ {m after : Machine} {call : Call} {number : ℕ} (orderly : rising (checks call) ≡ true) (Lends-none : lent call ≡ [])
+module _ {m after : Machine} {call : Call} {number : ℕ} (orderly : rising (checks call) ≡ true) (lends_none : lent call ≡ [])
     (breaks : ¬ (number ≡ 0) → Breaks m call number) (first : (n : ℕ) → Breaks m call n → First number n)
     (answers : Answers m call (returning number) after) where
   not-before : (n : ℕ) → contains n (in_front_of number (checks call)) ≡ true → ¬ Breaks m call n
@@ -89,7 +89,7 @@ module _ {m after : Machine} {call : Call} {number : ℕ} (orderly : rising (che
         in_order = not-before;
         accepted = λ e n broken. omega (arith, (first n broken).0);
         everything_else = otherwise breaks;
-        untouched = λ some. (left_alone answers some, sym Lends-none);
+        untouched = λ some. (left_alone answers some, sym lends_none);
       }
 
 -- The conditions of an infer: each is tested before those after it, and the three numbers of a program without a typing exclude each other and 24.
