@@ -12,6 +12,7 @@ fall together stop it before a file is written.
 import glob
 import os
 import re
+import subprocess
 import sys
 
 WORD = r"[^\s(){}.;,@\"«»\[\]\\λ:→×∷]+"
@@ -19,9 +20,11 @@ WORD = r"[^\s(){}.;,@\"«»\[\]\\λ:→×∷]+"
 TOKEN = re.compile(r"--[^\n]*|//[^\n]*|\"(?:[^\"\\]|\\.)*\"|" + WORD)
 DECLARED = re.compile(r"^(?P<indent>[ ]*)(?:(?:abbrev|unfoldable|pub|ruleset|data|record)\s+)*(?P<names>" + WORD + r"(?:\s+" + WORD + r")*)\s*:(?:\s|$)", re.M)
 RULESET = re.compile(r"^[ ]*(?:pub )?ruleset (?:pub )?(" + WORD + ")", re.M)
-KIT = os.environ.get("RATTLE_KIT", "/opt/rattle/rattle")
+# The folder of the kit's libraries: beside the page that `rt doc` names.
+KIT = os.path.join(os.path.dirname(subprocess.check_output(["rt", "doc"], text=True).strip()), "rattle")
 # A local lemma that has the name of a function of src/, and of a definition in its new spelling.
 LOCAL = {"crates/readings/proofs/Greatest.antt": {"row_type": "row_type_lem"}}
+
 
 def read(path):
     with open(path, encoding="utf-8") as f:
