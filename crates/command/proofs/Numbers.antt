@@ -10,12 +10,10 @@ use lib.Seq.{drop-drop, take-suc-set}
 use mir.Syntax.{w64}
 use mir.Val.{Fits}
 use borrow.Author.Tests.{lt-ltb, le-ltb}
+use Rattle.std.specs.Prelude.{Option, Some, None}
 use Rattle.model.specs.Lists.{all_of, contains, length_before}
-use Rattle.model.specs.declared.Field.TheVariants.{Value, NoValue}
 use Rattle.model.proofs.Lists.{contains_before}
 use Rattle.numbers.specs.NumberTo.{next_place, bytes_to, number_to}
-use Rattle.numbers.specs.declared.Parsed.{Parsed}
-use Rattle.numbers.specs.declared.Parsed.TheVariants.{UpTo, Failed}
 use Rattle.numbers.proofs.Ends.{number_failed, number_read, number_within}
 use Rattle.conversation.specs.Script.{argument, before_blank, after_blank, front_words, is_number, number_in, arguments_of}
 
@@ -24,10 +22,10 @@ abbrev with : List ℕ → List (List ℕ) → List ℕ
 with numbers words = cond (all_of (λ s. is_number (argument s)) words) (numbers ++ map (λ s. number_in (argument s)) words) []
 
 module _ (numbers word : List ℕ) (words : List (List ℕ)) where
-  with_none : argument word ≡ NoValue → with numbers (word ∷ words) ≡ []
+  with_none : argument word ≡ None → with numbers (word ∷ words) ≡ []
   with_none e = simp e
 
-  with_one : (n : ℕ) → argument word ≡ Value n → with numbers (word ∷ words) ≡ with (numbers ++ (n ∷ [])) words
+  with_one : (n : ℕ) → argument word ≡ Some n → with numbers (word ∷ words) ≡ with (numbers ++ (n ∷ [])) words
   with_one n e = simp (e, append_assoc)
 
 with_no_more : (numbers : List ℕ) → with numbers [] ≡ numbers
@@ -58,7 +56,7 @@ count_full s into count from counted h =
     sym (counted.left ∙ rw none (with_no_more (take count into)))
 
 -- The word that starts at `from` ends at the next blank, or with the bytes.
-module _ (s into : List ℕ) (count from : ℕ) (word : Parsed) (counted : Counted s into count from) (more : count < 66) (read : word ≡ number_to 32 4294967295 s from) where
+module _ (s into : List ℕ) (count from : ℕ) (word : Option (ℕ × ℕ)) (counted : Counted s into count from) (more : count < 66) (read : word ≡ number_to 32 4294967295 s from) where
   abbrev later : List (List ℕ)
   later = cond (contains 32 (drop from s)) (front_words (66 - (count + 1)) (drop (next_place 32 s from + 1) s)) []
 
@@ -67,11 +65,11 @@ module _ (s into : List ℕ) (count from : ℕ) (word : Parsed) (counted : Count
       let next : from + (length_before 32 (drop from s) + 1) ≡ next_place 32 s from + 1 = omega arith in
       words_first (66 - (count + 1)) (66 - count) (drop from s) (omega arith) ∙ rw (drop-drop (length_before 32 (drop from s) + 1) from s, next)
 
-  pub no_number : word ≡ Failed → take 0 into ≡ arguments_of (front_words 66 s)
-  no_number e = sym (counted.left ∙ ap (with (take count into)) read_words ∙ with_none (take count into) _ later (number_failed 32 4294967295 s from word read e))
+  pub no_number : word ≡ None → arguments_of (front_words 66 s) ≡ []
+  no_number e = counted.left ∙ ap (with (take count into)) read_words ∙ with_none (take count into) _ later (number_failed 32 4294967295 s from word read e)
 
-  module _ (n to : ℕ) (is : word ≡ UpTo n to) where
-    number_is : (argument (bytes_to 32 s from) ≡ Value n) × (next_place 32 s from ≡ to)
+  module _ (n to : ℕ) (is : word ≡ Some (n, to)) where
+    number_is : (argument (bytes_to 32 s from) ≡ Some n) × (next_place 32 s from ≡ to)
     number_is = number_read 32 4294967295 s from word read n to is
 
     word_within : to ≤ length s

@@ -1,44 +1,61 @@
 -- Each way out of the reader is the command that the definition gives.
 use Prim.Native.Nat.{ℕ, ◌+◌, ◌-◌, ◌≤◌, ◌<◌}
 use native.Mathlib.Omega.{arith}
-use native.Mathlib.Decide.{dec_lt}
-use mathlib.Core.Bool.{Bool, true, false, cond}
-use mathlib.Core.List.{List, []}
-use mathlib.Core.Path.{◌≡◌, refl, sym, ap, ◌∙◌}
-use lib.ListN.{length, take, drop, length-take, length-drop, drop_of_length-le}
+use mathlib.Core.Bool.{Bool, true, false, ◌&&◌, cond}
+use lib.Dec.{eqb}
+use lib.Pointwise.{pointwise}
+use borrow.Author.Tests.{eqb-true, eqb-false, eq-eqb, ne_eqb}
+use Rattle.std.specs.List.{starts_with}
+use mathlib.Core.List.{List, [], ◌∷◌}
+use mathlib.Core.Path.{◌≡◌, refl, sym, ap, ap₂, ◌∙◌}
+use lib.ListN.{length, take, drop, length-drop, drop_of_length-le}
 use lib.Seq.{take_all}
-use Rattle.model.specs.Lists.{length_before, bytes}
+use Rattle.std.specs.Prelude.{Option, Some, None}
+use Rattle.std.specs.Option.{option_map_or}
+use Rattle.model.specs.Lists.{length_before, bytes, same}
 use Rattle.model.specs.Number.{number_of}
 use Rattle.numbers.specs.NumberTo.{next_place, number_to}
-use Rattle.numbers.specs.declared.Parsed.{Parsed}
-use Rattle.numbers.specs.declared.Parsed.TheVariants.{UpTo, Failed}
 use Rattle.numbers.proofs.Ends.{number_failed, number_read, number_within}
-use Rattle.conversation.specs.Script.{begins, before_blank, after_blank, argument, redeclare_of, file_in, run_of}
+use Rattle.conversation.specs.Script.{begins, before_blank, after_blank, argument, redeclare_of, file_in, run_of, command_of}
 use Rattle.conversation.specs.Script as Script
-use Rattle.model.specs.declared.Field.{Field}
-use Rattle.model.specs.declared.Field.TheVariants.{Value, NoValue}
-use Rattle.model.proofs.Lists.{same_length}
 use Rattle.conversation.proofs.Front.{no_code}
-use Rattle.command.specs.Said.{said}
+use Rattle.command.specs.Said.{said, word_length}
 use Rattle.command.specs.declared.Command.{Command}
 use Rattle.command.specs.declared.Command.TheVariants.{Redeclare, Nothing}
 
--- Fewer bytes than the word has do not begin with it.
-pub begins_short : (word s : List ℕ) → length s < length word → false ≡ begins word s
-begins_short word s h = same_length (take (length word) s) word (λ e. let z : ⊥ = omega (arith, length-take (length word) s) in z)
+-- The library's test of two lists is the definition's, from either side.
+pointwise_same : (s t : List ℕ) → pointwise eqb s t ≡ same s t
+pointwise_same [] [] = refl
+pointwise_same [] (b ∷ t) = refl
+pointwise_same (a ∷ s) [] = refl
+pointwise_same (a ∷ s) (b ∷ t) = ap (λ (r : Bool). eqb a b && r) (pointwise_same s t)
 
-pub begins_long : (word s : List ℕ) (r : Bool) → r ≡ begins word s → r ≡ true → length word ≤ length s
-begins_long word s r e v = by (dec_lt (length s) (length word))
+turned : (a b : ℕ) → eqb a b ≡ eqb b a
+turned a b = by (eqb b a) refl
   where
-    by : Dec (length s < length word) → length word ≤ length s
-    by (yes h) = let z : ◌≡◌ {A = ℕ} 0 1 = cc (begins_short word s h) in omega arith
-    by (no h) = omega arith
+    by : (t : Bool) → eqb b a ≡ t → eqb a b ≡ t
+    by true e = eq-eqb a b (sym (eqb-true b a e))
+    by false e = ne_eqb a b (λ p. eqb-false b a e (sym p))
 
-no_second : (p code : Field) (t : List ℕ) → code ≡ NoValue → said Nothing t ≡ redeclare_of p code
+same_turned : (s t : List ℕ) → same s t ≡ same t s
+same_turned [] [] = refl
+same_turned [] (b ∷ t) = refl
+same_turned (a ∷ s) [] = refl
+same_turned (a ∷ s) (b ∷ t) = ap₂ ◌&&◌ (turned a b) (same_turned s t)
+
+-- Whether the bytes begin with a word, by the library's two tests of that.
+module _ (word s : List ℕ) where
+  pub begins_by : (r t : Bool) → r ≡ starts_with eqb s word → r ≡ t → begins word s ≡ t
+  begins_by r t e is = sym (e ∙ pointwise_same word (take (length word) s) ∙ same_turned word (take (length word) s)) ∙ is
+
+  pub begins_stripped : (t : Bool) → pointwise eqb (take (length word) s) word ≡ t → begins word s ≡ t
+  begins_stripped t e = sym (pointwise_same (take (length word) s) word) ∙ e
+
+no_second : (p code : Option ℕ) (t : List ℕ) → code ≡ None → said Nothing t ≡ redeclare_of p code
 unfolding said
 no_second p code t e = simp e (sym (no_code p))
 
-no_number : argument [] ≡ NoValue
+no_number : argument [] ≡ None
 unfolding number_of
 no_number = refl
 
@@ -50,13 +67,13 @@ pub rest-is : (n : ℕ) (s : List ℕ) → rest n s ≡ drop n s
 rest-is n s = take_all (length s - n) (drop n s) (omega (arith, length-drop n s))
 
 -- Two numbers, parted by the first blank: the first one was read up to it.
-module _ (s : List ℕ) (first : Parsed) (read : first ≡ number_to 32 4294967295 s 0) where
-  pub no_first : first ≡ Failed → (t : List ℕ) → said Nothing t ≡ redeclare_of (argument (before_blank s)) (argument (after_blank s))
+module _ (s : List ℕ) (first : Option (ℕ × ℕ)) (read : first ≡ number_to 32 4294967295 s 0) where
+  pub no_first : first ≡ None → (t : List ℕ) → said Nothing t ≡ redeclare_of (argument (before_blank s)) (argument (after_blank s))
   unfolding said
   no_first none t = simp (number_failed 32 4294967295 s 0 first read none)
 
-  module _ (p end : ℕ) (is : first ≡ UpTo p end) where
-    first-is : (argument (before_blank s) ≡ Value p) × (next_place 32 s 0 ≡ end)
+  module _ (p end : ℕ) (is : first ≡ Some (p, end)) where
+    first-is : (argument (before_blank s) ≡ Some p) × (next_place 32 s 0 ≡ end)
     first-is = number_read 32 4294967295 s 0 first read p end is
 
     pub blank_within : end ≤ length s
@@ -68,34 +85,67 @@ module _ (s : List ℕ) (first : Parsed) (read : first ≡ number_to 32 42949672
         let past : length s ≤ length_before 32 s + 1 = omega (arith, first-is.1) in
         no_second (argument (before_blank s)) (argument (after_blank s)) t (ap argument (drop_of_length-le s past) ∙ no_number)
 
-    module _ (code : Field) (e : code ≡ number_of 4294967295 (rest (end + 1) s)) where
+    module _ (code : Option ℕ) (e : code ≡ number_of 4294967295 (rest (end + 1) s)) where
       code_is : argument (after_blank s) ≡ code
       code_is = let place : length_before 32 s ≡ end = omega (arith, first-is.1) in sym (e ∙ rw (rest-is (end + 1) s, place))
 
-      pub both_numbers : (n : ℕ) → code ≡ Value n → (t : List ℕ) → said (Redeclare p n) t ≡ redeclare_of (argument (before_blank s)) (argument (after_blank s))
+      both_numbers : (n : ℕ) → code ≡ Some n → (t : List ℕ) → said (Redeclare p n) t ≡ redeclare_of (argument (before_blank s)) (argument (after_blank s))
       unfolding said
       both_numbers n v t = simp (first-is.0, code_is ∙ v)
 
-      pub first_only : code ≡ NoValue → (t : List ℕ) → said Nothing t ≡ redeclare_of (argument (before_blank s)) (argument (after_blank s))
+      first_only : code ≡ None → (t : List ℕ) → said Nothing t ≡ redeclare_of (argument (before_blank s)) (argument (after_blank s))
       first_only v t = no_second (argument (before_blank s)) (argument (after_blank s)) t (code_is ∙ v)
 
--- A redeclare's numbers stand after its first ten bytes.
-pub after_ten : (s : List ℕ) (c : Command) → ((t : List ℕ) → said c t ≡ redeclare_of (argument (before_blank (rest 10 s))) (argument (after_blank (rest 10 s)))) →
-    said c s ≡ redeclare_of (argument (before_blank (drop 10 s))) (argument (after_blank (drop 10 s)))
-after_ten s c says = says s ∙ rw (rest-is 10 s)
+      -- What is made of the second number, where it is one.
+      pub second_number : (r : Command) → r ≡ option_map_or (λ n. Redeclare p n) code Nothing →
+          ((t : List ℕ) → said r t ≡ redeclare_of (argument (before_blank s)) (argument (after_blank s))) × (word_length r ≡ 0)
+      second_number r e = by code refl e
+        where
+          by : (o : Option ℕ) → code ≡ o → r ≡ option_map_or (λ n. Redeclare p n) o Nothing → ((t : List ℕ) → said r t ≡ redeclare_of (argument (before_blank s)) (argument (after_blank s))) × (word_length r ≡ 0)
+          by (Some n) v made = (rw made (both_numbers n v), ap word_length made)
+          by None v made = (rw made (first_only v), ap word_length made)
 
--- What a line is that is none of the first four commands.
-abbrev pub later_command : List ℕ → Script.Command
-later_command s = cond (begins (bytes "schemes ") s) (Script.schemes (file_in (drop 8 s))) (cond (begins (bytes "run ") s) (run_of (drop 4 s)) Script.no_command)
+-- A test came out as t.
+module _ (test : Bool) (a b c : Script.Command) where
+  passed : test ≡ true → c ≡ a → c ≡ cond test a b
+  passed v p = simp v p
 
--- A test came out as r.
-module _ (test r : Bool) (a b c : Script.Command) (e : r ≡ test) where
-  pub test_passed : r ≡ true → c ≡ a → c ≡ cond test a b
-  test_passed v p = simp (sym e ∙ v) p
+  failed : test ≡ false → c ≡ b → c ≡ cond test a b
+  failed v p = simp v p
 
-  pub test_failed : r ≡ false → c ≡ b → c ≡ cond test a b
-  test_failed v p = simp (sym e ∙ v) p
+-- The commands are tried in turn.
+module _ (s : List ℕ) (c : Script.Command) where
+  pub is_add : begins (bytes "add ") s ≡ true → c ≡ Script.add (drop 4 s) → c ≡ command_of s
+  unfolding command_of
+  is_add e is = passed _ _ _ c e is
 
-pub ruleset readings = (begins_short, after_ten, test_passed, test_failed)
+  module _ (no-add : begins (bytes "add ") s ≡ false) where
+    pub is_redeclare : begins (bytes "redeclare ") s ≡ true → c ≡ redeclare_of (argument (before_blank (drop 10 s))) (argument (after_blank (drop 10 s))) → c ≡ command_of s
+    unfolding command_of
+    is_redeclare e is = failed _ _ _ c no-add (passed _ _ _ c e is)
 
-pub ruleset parted = (no_first, no_blank, both_numbers, first_only)
+    module _ (no-redeclare : begins (bytes "redeclare ") s ≡ false) where
+      pub is_take_back : same s (bytes "take-back") ≡ true → c ≡ Script.take_back → c ≡ command_of s
+      unfolding command_of
+      is_take_back e is = failed _ _ _ c no-add (failed _ _ _ c no-redeclare (passed _ _ _ c e is))
+
+      module _ (no-take-back : same s (bytes "take-back") ≡ false) where
+        pub is_infer : same s (bytes "infer") ≡ true → c ≡ Script.infer → c ≡ command_of s
+        unfolding command_of
+        is_infer e is = failed _ _ _ c no-add (failed _ _ _ c no-redeclare (failed _ _ _ c no-take-back (passed _ _ _ c e is)))
+
+        module _ (no-infer : same s (bytes "infer") ≡ false) where
+          pub is_schemes : begins (bytes "schemes ") s ≡ true → c ≡ Script.schemes (file_in (drop 8 s)) → c ≡ command_of s
+          unfolding command_of
+          is_schemes e is = failed _ _ _ c no-add (failed _ _ _ c no-redeclare (failed _ _ _ c no-take-back (failed _ _ _ c no-infer (passed _ _ _ c e is))))
+
+          module _ (no-schemes : begins (bytes "schemes ") s ≡ false) where
+            pub is_run : begins (bytes "run ") s ≡ true → c ≡ run_of (drop 4 s) → c ≡ command_of s
+            unfolding command_of
+            is_run e is = failed _ _ _ c no-add (failed _ _ _ c no-redeclare (failed _ _ _ c no-take-back (failed _ _ _ c no-infer (failed _ _ _ c no-schemes (passed _ _ _ c e is)))))
+
+            pub is_nothing : begins (bytes "run ") s ≡ false → c ≡ Script.no_command → c ≡ command_of s
+            unfolding command_of
+            is_nothing e is = failed _ _ _ c no-add (failed _ _ _ c no-redeclare (failed _ _ _ c no-take-back (failed _ _ _ c no-infer (failed _ _ _ c no-schemes (failed _ _ _ c e is)))))
+
+pub ruleset parted = (no_first, no_blank)

@@ -1,6 +1,6 @@
 -- A command that was read, as the command of the definitions.
-use Rattle.std.specs.Prelude.{ℕ, List, drop}
-use Rattle.conversation.specs.Script.{file_in, run_of}
+use Rattle.std.specs.Prelude.{ℕ, ◌≤◌, ◌<◌, List, [], ◌≡◌, length, take, drop, Option, Some, None}
+use Rattle.conversation.specs.Script.{file_in, front_words, arguments_of, run_of}
 use Rattle.conversation.specs.Script as Script
 use Rattle.command.specs.declared.Command.{Command}
 use Rattle.command.specs.declared.Command.TheVariants.{Add, Redeclare, TakeBack, Infer, Schemes, Run, Nothing}
@@ -24,3 +24,8 @@ word_length Infer = 0
 word_length Schemes = 8
 word_length Run = 4
 word_length Nothing = 0
+
+-- The numbers of a run's words stand at the array's front, the budget first, as many as are told; or there are none.
+abbrev pub ReadInto : List ℕ → List ℕ → Option ℕ → Type 0
+ReadInto s into None = arguments_of (front_words 66 s) ≡ []
+ReadInto s into (Some count) = (take count into ≡ arguments_of (front_words 66 s)) × (0 < count) × (count ≤ length into)

@@ -8,13 +8,12 @@ use mathlib.Core.List.{List, [], ◌∷◌}
 use mathlib.Core.Path.{◌≡◌, refl, sym, ap, subst, subst₂, ◌∙◌}
 use lib.ListN.{length, take, drop, length-take, length-drop, length-map}
 use lib.Seq.{take_all, take-take}
+use Rattle.std.specs.Prelude.{Option, Some, None}
 use Rattle.model.specs.Lists.{same, length_before, bytes}
 use Rattle.model.specs.Number.{decimal}
 use Rattle.model.specs.Machine.{Machine, Change, settled, added}
 use Rattle.model.specs.Report.{line}
 use Rattle.model.specs.Session.{adds}
-use Rattle.model.specs.declared.Field.{Field}
-use Rattle.model.specs.declared.Field.TheVariants.{Value, NoValue}
 use Rattle.model.proofs.Lists.{same_length, before_most, drop-take}
 use Rattle.model.proofs.Digits.{long_number}
 use Rattle.model.proofs.LongFiles.{long_opened}
@@ -25,9 +24,9 @@ use Rattle.conversation.proofs.Same.{Says, replies_say}
 use Rattle.conversation.proofs.Words.{arguments_front}
 
 -- A redeclare needs both of its numbers.
-pub no_code : (p : Field) → redeclare_of p NoValue ≡ Script.no_command
-no_code (Value p) = refl
-no_code NoValue = refl
+pub no_code : (p : Option ℕ) → redeclare_of p None ≡ Script.no_command
+no_code (Some p) = refl
+no_code None = refl
 
 -- Of more than 21 bytes more than ten stand before the first blank or after it.
 long_redeclare : (s : List ℕ) → 21 < length s → redeclare_of (argument (before_blank s)) (argument (after_blank s)) ≡ Script.no_command

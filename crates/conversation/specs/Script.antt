@@ -1,6 +1,6 @@
 -- Scripts: one command a line, the calls that the commands make, and what is answered to each line.
 -- Document 01 has the calls and no text of them; docs/DECISIONS.md, "The session", "A scheme table of the owner's" and "Dry run of an accepted job", fix this one.
-use Rattle.std.specs.Prelude.{ℕ, zero, suc, ◌+◌, ◌≤◌, ◌<◌, min, Bool, true, false, cond, List, [], ◌∷◌, ◌++◌, map, ◌≡◌, eqb, length, take, drop}
+use Rattle.std.specs.Prelude.{ℕ, zero, suc, ◌+◌, ◌≤◌, ◌<◌, min, Bool, true, false, cond, List, [], ◌∷◌, ◌++◌, map, ◌≡◌, eqb, length, take, drop, Option, Some, None}
 use Rattle.scheme.specs.Six.{six_table}
 use Rattle.model.specs.Lists.{all_of, contains, same, length_before, bytes}
 use Rattle.model.specs.Number.{number_of, decimal}
@@ -10,8 +10,6 @@ use Rattle.model.specs.SchemeFile.{opened}
 use Rattle.model.specs.Report.{line}
 use Rattle.model.specs.Session.{Call, Outcome, Answers}
 use Rattle.model.specs.Text.{lines_of, shown}
-use Rattle.model.specs.declared.Field.{Field}
-use Rattle.model.specs.declared.Field.TheVariants.{Value, NoValue}
 use Rattle.dryrun.specs.Run.{DryRuns}
 use Rattle.dryrun.specs.Run as Run
 
@@ -36,13 +34,13 @@ abbrev pub after_blank : List ℕ → List ℕ
 after_blank s = drop (length_before 32 s + 1) s
 
 -- A parameter, a code, or a number of a run: "decimal numbers up to 4294967295, no leading zeros".
-abbrev pub argument : List ℕ → Field
+abbrev pub argument : List ℕ → Option ℕ
 argument s = number_of 4294967295 s
 
-abbrev pub redeclare_of : Field → Field → Command
-redeclare_of (Value p) (Value code) = redeclare p code
-redeclare_of (Value p) NoValue = no_command
-redeclare_of NoValue code = no_command
+abbrev pub redeclare_of : Option ℕ → Option ℕ → Command
+redeclare_of (Some p) (Some code) = redeclare p code
+redeclare_of (Some p) None = no_command
+redeclare_of None code = no_command
 
 -- A scheme file on one line: "each blank stands for a line feed".
 abbrev pub file_in : List ℕ → List ℕ
@@ -54,13 +52,13 @@ front_words zero s = []
 front_words (suc most) s = before_blank s ∷ cond (contains 32 s) (front_words most (after_blank s)) []
 
 -- Whether a word is a number, and which.
-abbrev pub is_number : Field → Bool
-is_number (Value n) = true
-is_number NoValue = false
+abbrev pub is_number : Option ℕ → Bool
+is_number (Some n) = true
+is_number None = false
 
-abbrev pub number_in : Field → ℕ
-number_in (Value n) = n
-number_in NoValue = 0
+abbrev pub number_in : Option ℕ → ℕ
+number_in (Some n) = n
+number_in None = 0
 
 -- The numbers of the words; none at all where some word is no number.
 unfoldable pub arguments_of : List (List ℕ) → List ℕ

@@ -5,17 +5,17 @@ use mathlib.Core.Bool.{true, false, false≢true}
 use mathlib.Core.List.{List, [], ◌∷◌, ◌++◌, append_assoc}
 use mathlib.Core.Path.{◌≡◌, refl, sym, ap, ◌∙◌}
 use lib.ListN.{length}
+use Rattle.std.specs.Prelude.{Some}
 use Rattle.scheme.proofs.Every.{and_left, and_right}
 use Rattle.model.specs.Lists.{all_of, bytes}
 use Rattle.model.specs.Number.{is_digit, number_of, decimal}
 use Rattle.model.specs.Machine.{Machine}
 use Rattle.model.specs.Inference.{Slot, Shape}
 use Rattle.model.specs.Report.{line, lines, variable_line, param_line, row_line, report}
-use Rattle.model.specs.declared.Field.TheVariants.{Value}
 use Rattle.model.proofs.Numerals.{number_numeral}
 use Rattle.tokens.proofs.RoundTrip.{number_of_decimal}
 
-pub number_digits : (most n : ℕ) (s : List ℕ) → number_of most s ≡ Value n → all_of is_digit s ≡ true
+pub number_digits : (most n : ℕ) (s : List ℕ) → number_of most s ≡ Some n → all_of is_digit s ≡ true
 number_digits most n s e = (number_numeral most s n e).0.all_digits
 
 pub decimal-digits : (n : ℕ) → all_of is_digit (decimal n) ≡ true

@@ -6,6 +6,7 @@ use mathlib.Core.Bool.{true}
 use mathlib.Core.List.{List, [], ◌∷◌, ◌++◌, map}
 use mathlib.Core.Path.{◌≡◌}
 use lib.ListN.{length, get_or, take, drop}
+use Rattle.std.specs.Prelude.{Option, Some}
 use Rattle.scheme.specs.Schemes.{SchemeTable, Sound}
 use Rattle.scheme.specs.Six.{six_table}
 use Rattle.scheme.proofs.Six.{six_sound}
@@ -27,8 +28,6 @@ use Rattle.model.specs.Report.{line, report}
 use Rattle.model.specs.Session.{Call, add, redeclare, take_back, infer, Outcome, returning, Infers, Answers, adds, redeclares, takes_back, Session}
 use Rattle.model.specs.Text.{lines_of, Prints, Returns, ReturnsUnder}
 use Rattle.conversation.specs.Script.{command_of, Makes, Replies, Conversation, largest, Responds}
-use Rattle.model.specs.declared.Field.{Field}
-use Rattle.model.specs.declared.Field.TheVariants.{Value}
 use Rattle.model.specs.declared.Line.TheVariants.{NoForm}
 use Rattle.model.proofs.Answers.{session_same}
 use Rattle.model.proofs.Files.{six_file}
@@ -310,7 +309,7 @@ left_out_refused = unspelled_refused
 -- Document 02, c). "The reader of words takes qualifier, kind and operation words in either case, also mixed": a field is the word of a code exactly
 -- where its capitals are the word that a report has for the code.
 pub words_in_either_case : (s : List ℕ) (c : ℕ) →
-    (word_of six_table.names s ≡ Value c → capitals s ≡ qualifier_word six_table.names c) × (c < 7 → capitals s ≡ qualifier_word six_table.names c → word_of six_table.names s ≡ Value c)
+    (word_of six_table.names s ≡ Some c → capitals s ≡ qualifier_word six_table.names c) × (c < 7 → capitals s ≡ qualifier_word six_table.names c → word_of six_table.names s ≡ Some c)
 words_in_either_case = word_exactly
 
 -- "Every line form rests on this reader": lines that differ in the case of words alone enter the same, or both have none of the forms.
@@ -332,7 +331,7 @@ returned_in_either_case alike = returns_alike alike
 pub tags_fixed : (names : List (List ℕ)) (s : List ℕ) → ¬ (field s 0 ≡ bytes "T") → ¬ (field s 0 ≡ bytes "P") → ¬ (field s 0 ≡ bytes "E") → line_of names s ≡ NoForm
 tags_fixed = other_tag
 
-pub variable_letter_fixed : (names : List (List ℕ)) (s : List ℕ) (c : ℕ) → qualifier_of names s ≡ Value c → length (qualifier_words names) ≤ c → get_or s 0 0 ≡ 103
+pub variable_letter_fixed : (names : List (List ℕ)) (s : List ℕ) (c : ℕ) → qualifier_of names s ≡ Some c → length (qualifier_words names) ≤ c → get_or s 0 0 ≡ 103
 variable_letter_fixed = variable_letter
 
 -- "Reports are written in capitals as before."
@@ -368,5 +367,5 @@ dry_run_ends accepted numbers budget = let (o, r) = always_ends accepted numbers
 
 -- Document 02, g). "After any bytes it answers as the reader does for them as a whole field": a reader that was started and then fed these bytes, one by one, under every
 -- upper end. The steps and the answer are what the contracts of `Reader::start`, `feed` and `answer` say (numbers/proofs/OnePass.antt).
-pub one_pass : {s : List ℕ} {reader : Reader} (most : ℕ) {answer : Field} → Fed s reader → OnePass.Answers reader most answer → answer ≡ number_of most s
+pub one_pass : {s : List ℕ} {reader : Reader} (most : ℕ) {answer : Option ℕ} → Fed s reader → OnePass.Answers reader most answer → answer ≡ number_of most s
 one_pass = fed_answers

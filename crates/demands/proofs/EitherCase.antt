@@ -6,6 +6,7 @@ use mathlib.Core.List.{List, [], ◌∷◌, map}
 use mathlib.Core.Path.{◌≡◌, refl, sym, ap, ap₂, subst, ◌∙◌}
 use lib.Dec.{eqb, leb}
 use lib.ListN.{length, length-map, get_or}
+use Rattle.std.specs.Prelude.{Some}
 use Rattle.scheme.specs.Schemes.{SchemeTable, Sound}
 use Rattle.model.specs.Lists.{bytes}
 use Rattle.model.specs.Number.{number_of}
@@ -14,7 +15,6 @@ use Rattle.model.specs.Line.{fields, field, floor, choose, exactly, int_line, an
 use Rattle.model.specs.Machine.{Machine, Change, fresh_machine, entered, added}
 use Rattle.model.specs.Session.{Call, add, Outcome, returning, Answers, adds, Session, done}
 use Rattle.model.specs.Text.{lines_of, Load, stopped, load_from, Prints, Returns}
-use Rattle.model.specs.declared.Field.TheVariants.{Value}
 use Rattle.model.specs.declared.Line.TheVariants.{NoForm}
 use Rattle.model.proofs.Lists.{same_other}
 use Rattle.model.proofs.Keeps.{answers_keep}
@@ -113,7 +113,7 @@ other_tag names s t p e =
     either true = refl
     either false = refl
 
-pub variable_letter : (names : List (List ℕ)) (s : List ℕ) (c : ℕ) → qualifier_of names s ≡ Value c → length (qualifier_words names) ≤ c → get_or s 0 0 ≡ 103
+pub variable_letter : (names : List (List ℕ)) (s : List ℕ) (c : ℕ) → qualifier_of names s ≡ Some c → length (qualifier_words names) ≤ c → get_or s 0 0 ≡ 103
 variable_letter names s c read above =
     qualifier_cases names s c read
     (λ word. absurd (omega (arith, word_below names s c word)))

@@ -8,13 +8,12 @@ use mathlib.Core.Path.{◌≡◌, refl, sym, ap, subst, ◌∙◌}
 use lib.Dec.{eqb, leb}
 use lib.ListN.{length}
 use borrow.Author.Tests.{eqb-true, not-true}
+use Rattle.std.specs.Prelude.{Option, Some, None}
 use Rattle.scheme.proofs.Every.{and_left, and_right}
 use Rattle.model.specs.Lists.{all_of, contains, same, bytes}
 use Rattle.model.specs.Number.{is_digit, number_of}
 use Rattle.model.specs.Word.{qualifier_words, operation_words, spells, place_in, word_of, variable_of, qualifier_of, scheme_of, operation_of}
 use Rattle.model.specs.Line.{fields, field, number, literal, qualifier, floor, scheme, operation, given, choose, exactly, tag, kind, int_line, any_line, arrow_line, param_line, lam_line, app_line, op_line, var_line, num_line, enc_line, type_line, leaf_line, term_line, line_of}
-use Rattle.model.specs.declared.Field.{Field}
-use Rattle.model.specs.declared.Field.TheVariants.{Value, NoValue}
 use Rattle.model.specs.declared.Line.{Line}
 use Rattle.model.specs.declared.Line.TheVariants.{NoForm}
 use Rattle.model.proofs.Lists.{same_bytes}
@@ -28,7 +27,7 @@ abbrev Clean : List ℕ → Type 0
 Clean s = contains 10 s ≡ false
 
 -- What is read of a field: a number, a word, a qualifier.
-number_clean : (most v : ℕ) (f : List ℕ) → number_of most f ≡ Value v → Clean f
+number_clean : (most v : ℕ) (f : List ℕ) → number_of most f ≡ Some v → Clean f
 number_clean most v f e = kind_without 10 is_digit refl f (number_digits most v f e)
 
 same_clean : (f letter : List ℕ) → Clean letter → same f letter ≡ true → Clean f
@@ -38,26 +37,26 @@ same_clean f letter clean h = ap (contains 10) (same_bytes f letter h) ∙ clean
 word_clean : (f word : List ℕ) → Clean word → spells f word ≡ true → Clean f
 word_clean f word clean h = sym (capitals_contain 10 (omega arith) f) ∙ ap (contains 10) ((spells_exactly f word).0 h) ∙ clean
 
-place_clean : (c v : ℕ) (words : List (List ℕ)) (f : List ℕ) → all_of (λ word. not (contains 10 word)) words ≡ true → place_in c words f ≡ Value v → Clean f
+place_clean : (c v : ℕ) (words : List (List ℕ)) (f : List ℕ) → all_of (λ word. not (contains 10 word)) words ≡ true → place_in c words f ≡ Some v → Clean f
 place_clean c v [] f clean e = cc
 place_clean c v (word ∷ words) f clean e = by (spells f word) refl (place_clean (c + 1) v words f (and_right (not (contains 10 word)) _ clean)) e
   where
-    by : (t : Bool) → spells f word ≡ t → (place_in (c + 1) words f ≡ Value v → Clean f) → cond t (Value c) (place_in (c + 1) words f) ≡ Value v → Clean f
+    by : (t : Bool) → spells f word ≡ t → (place_in (c + 1) words f ≡ Some v → Clean f) → cond t (Some c) (place_in (c + 1) words f) ≡ Some v → Clean f
     by true h later e = word_clean f word (not-true (contains 10 word) (and_left (not (contains 10 word)) _ clean)) h
     by false h later e = later e
 
-variable_clean : (n v : ℕ) (f : List ℕ) → variable_of n f ≡ Value v → Clean f
+variable_clean : (n v : ℕ) (f : List ℕ) → variable_of n f ≡ Some v → Clean f
 variable_clean n v f e = variable_cases n f v e (λ digits k begins number code. ap (contains 10) begins ∙ number_clean 63 k digits number)
 
-operation_clean : (v : ℕ) (f : List ℕ) → operation_of f ≡ Value v → Clean f
+operation_clean : (v : ℕ) (f : List ℕ) → operation_of f ≡ Some v → Clean f
 unfolding operation_of
 operation_clean v f e = place_clean 0 v operation_words f refl e
 
 -- A line has no form unless each of its steps passes.
-given_none : (f : Field) (rest : ℕ → Line) → ((v : ℕ) → f ≡ Value v → rest v ≡ NoForm) → given f rest ≡ NoForm
+given_none : (f : Option ℕ) (rest : ℕ → Line) → ((v : ℕ) → f ≡ Some v → rest v ≡ NoForm) → given f rest ≡ NoForm
 unfolding given
-given_none (Value v) rest none = none v refl
-given_none NoValue rest none = refl
+given_none (Some v) rest none = none v refl
+given_none None rest none = refl
 
 choose_none : (t : Bool) {a b : Line} → (t ≡ true → a ≡ NoForm) → b ≡ NoForm → choose t a b ≡ NoForm
 unfolding choose
@@ -103,14 +102,14 @@ clean_at {s} (◌then◌ {k = n} front last) k h = by (dec_lt k n) (clean_at fro
 
 -- Qualifiers and schemes are read by the names of a scheme table, none of which holds a line feed.
 module _ (names : List (List ℕ)) (clean : all_of (λ name. not (contains 10 name)) names ≡ true) where
-  qualifier_word_clean : (v : ℕ) (f : List ℕ) → word_of names f ≡ Value v → Clean f
+  qualifier_word_clean : (v : ℕ) (f : List ℕ) → word_of names f ≡ Some v → Clean f
   unfolding word_of
   qualifier_word_clean v f e = place_clean 0 v (qualifier_words names) f clean e
 
-  qualifier_clean : (v : ℕ) (f : List ℕ) → qualifier_of names f ≡ Value v → Clean f
+  qualifier_clean : (v : ℕ) (f : List ℕ) → qualifier_of names f ≡ Some v → Clean f
   qualifier_clean v f e = qualifier_cases names f v e (qualifier_word_clean v f) (variable_clean (suc (length names)) v f)
 
-  scheme_clean : (v : ℕ) (f : List ℕ) → scheme_of names f ≡ Value v → Clean f
+  scheme_clean : (v : ℕ) (f : List ℕ) → scheme_of names f ≡ Some v → Clean f
   unfolding scheme_of
   scheme_clean v f e = place_clean 1 v names f clean e
 

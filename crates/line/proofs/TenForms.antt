@@ -9,17 +9,16 @@ use lib.Dec.{eqb, eqb-suc-suc, eqb-zero-suc, eqb-suc-zero}
 use lib.ListN.{length, get_or, drop, length-drop}
 use lib.Seq.{get_or-drop}
 use borrow.Author.Tests.{eq-eqb, ne_eqb, eqb-true, eqb-false, not-true}
+use Rattle.std.specs.Prelude.{Option, Some, None}
 use Rattle.scheme.proofs.Every.{and_left, and_right}
 use Rattle.model.specs.Lists.{all_of, bytes}
 use Rattle.model.specs.Number.{number_of}
 use Rattle.model.specs.Word.{word_of, qualifier_of}
 use Rattle.model.specs.Line.{fields, field, number, qualifier, floor, given, choose, exactly, int_line, any_line, arrow_line, param_line, lam_line, app_line, op_line, var_line, num_line, enc_line}
-use Rattle.model.specs.declared.Field.{Field}
-use Rattle.model.specs.declared.Field.TheVariants.{Value, NoValue}
 use Rattle.model.specs.declared.Line.{Line}
 use Rattle.model.specs.declared.Line.TheVariants.{ParamLine, NoForm}
 use Rattle.tokens.specs.Part.{fields_from, FieldTo}
-use Rattle.tokens.specs.Form.{is_floor, word_in, value_of, no_values, put, told, onward, values_from, values_of}
+use Rattle.tokens.specs.Form.{is_floor, word_in, value_of, no_values, put, onward, values_from, values_of}
 use Rattle.tokens.specs.declared.values.Values.{Values}
 use Rattle.line.specs.Beginning.{Begun}
 use Rattle.line.specs.Made.{made, int_form, any_form, arrow_form, param_form, lam_form, app_form, op_form, var_form, num_form, enc_form}
@@ -32,18 +31,18 @@ no_floor kinds = all_of (λ kind. not (is_floor kind)) kinds
 module _ (names : List (List ℕ)) (form : Values → Line) (before : ℕ) where
   -- The fields after the first few as the definitions have them: the value of each goes into the rest.
   abbrev each_given : List (List ℕ) → Values → ℕ → List ℕ → Line
-  each_given fs v k [] = form (told true v)
+  each_given fs v k [] = form v
   each_given fs v k (kind ∷ kinds) = given (value_of names kind (get_or fs (before + k) [])) λ n. each_given fs (put kind k n v) (k + 1) kinds
 
   -- The fields `rest` are the later ones of `fs`, from k on; none of them may be left out.
-  made_each : (fs : List (List ℕ)) (v : Values) (k : ℕ) (kinds : List ℕ) (rest : List (List ℕ)) → no_floor kinds ≡ true → v.all ≡ false → ((j : ℕ) → get_or fs (before + (k + j)) [] ≡ get_or rest j [])
+  made_each : (fs : List (List ℕ)) (v : Values) (k : ℕ) (kinds : List ℕ) (rest : List (List ℕ)) → no_floor kinds ≡ true → ((j : ℕ) → get_or fs (before + (k + j)) [] ≡ get_or rest j [])
       → made form (values_from names v k kinds rest) ≡ choose (eqb (length rest) (length kinds)) (each_given fs v k kinds) NoForm
   unfolding onward given choose
-  made_each fs v k [] [] all none at = refl
-  made_each fs v k [] (f ∷ rest) all none at = simp (none, eqb-suc-zero)
-  made_each fs v k (kind ∷ kinds) [] all none at = simp (not-true (is_floor kind) (and_left (not (is_floor kind)) (no_floor kinds) all), eqb-zero-suc)
-  made_each fs v k (kind ∷ kinds) (f ∷ rest) all none at =
-      simp (here, eqb-suc-suc) (by (value_of names kind f) (eqb (length rest) (length kinds)) (λ n. made_each fs (put kind k n v) (k + 1) kinds rest (and_right (not (is_floor kind)) (no_floor kinds) all) none later))
+  made_each fs v k [] [] all at = refl
+  made_each fs v k [] (f ∷ rest) all at = simp eqb-suc-zero
+  made_each fs v k (kind ∷ kinds) [] all at = simp (not-true (is_floor kind) (and_left (not (is_floor kind)) (no_floor kinds) all), eqb-zero-suc)
+  made_each fs v k (kind ∷ kinds) (f ∷ rest) all at =
+      simp (here, eqb-suc-suc) (by (value_of names kind f) (eqb (length rest) (length kinds)) (λ n. made_each fs (put kind k n v) (k + 1) kinds rest (and_right (not (is_floor kind)) (no_floor kinds) all) later))
     where
       here : get_or fs (before + k) [] ≡ f
       here = rw add-zero at (at 0)
@@ -51,16 +50,16 @@ module _ (names : List (List ℕ)) (form : Values → Line) (before : ℕ) where
       later : (j : ℕ) → get_or fs (before + (k + 1 + j)) [] ≡ get_or rest j []
       later j = let e : k + suc j ≡ k + 1 + j = omega arith in rw e at (at (suc j))
 
-      by : (x : Field) (t : Bool) → ((n : ℕ) → made form (values_from names (put kind k n v) (k + 1) kinds rest) ≡ choose t (each_given fs (put kind k n v) (k + 1) kinds) NoForm)
-          → made form (onward x v λ n. values_from names (put kind k n v) (k + 1) kinds rest) ≡ choose t (given x λ n. each_given fs (put kind k n v) (k + 1) kinds) NoForm
-      by (Value n) t each = each n
-      by NoValue true each = simp none
-      by NoValue false each = simp none
+      by : (x : Option ℕ) (t : Bool) → ((n : ℕ) → made form (values_from names (put kind k n v) (k + 1) kinds rest) ≡ choose t (each_given fs (put kind k n v) (k + 1) kinds) NoForm)
+          → made form (onward x λ n. values_from names (put kind k n v) (k + 1) kinds rest) ≡ choose t (given x λ n. each_given fs (put kind k n v) (k + 1) kinds) NoForm
+      by (Some n) t each = each n
+      by None true each = refl
+      by None false each = refl
 
-  made_rest : (fs : List (List ℕ)) (kinds : List ℕ) (v : Values) → no_floor kinds ≡ true → v ≡ values_of names kinds (drop before fs)
+  made_rest : (fs : List (List ℕ)) (kinds : List ℕ) (v : Option Values) → no_floor kinds ≡ true → v ≡ values_of names kinds (drop before fs)
       → made form v ≡ choose (eqb (length (drop before fs)) (length kinds)) (each_given fs no_values 0 kinds) NoForm
   unfolding values_of
-  made_rest fs kinds v all e = ap (made form) e ∙ made_each fs no_values 0 kinds (drop before fs) all refl (λ j. sym (simp zero-add (get_or-drop before fs j [])))
+  made_rest fs kinds v all e = ap (made form) e ∙ made_each fs no_values 0 kinds (drop before fs) all (λ j. sym (simp zero-add (get_or-drop before fs j [])))
 
 -- What is counted from the same number is as many.
 count_from : (before m n : ℕ) → eqb (before + m) (before + n) ≡ eqb m n
@@ -75,7 +74,7 @@ begun_count s i before rest b n =
     let long : length (fields s) ≡ before + length rest = (let enough : before ≤ length (fields s) = b.enough in omega (arith, simp length-drop at (ap length b.left))) in
     rw long (count_from before (length rest) n)
 
-module _ (names : List (List ℕ)) (s : List ℕ) (i : ℕ) (v : Values) (r : Line) where
+module _ (names : List (List ℕ)) (s : List ℕ) (i : ℕ) (v : Option Values) (r : Line) where
   -- Each form follows from this by computing.
   pub form_line : (before : ℕ) (rest : List (List ℕ)) (form : ℕ → Values → Line) (kinds : List ℕ) → no_floor kinds ≡ true → Begun s i before rest → r ≡ made (form i) v → v ≡ values_of names kinds rest
       → r ≡ exactly (before + length kinds) s (given (number s 1) λ i. each_given names (form i) before (fields s) no_values 0 kinds)
@@ -131,17 +130,17 @@ pub ruleset forms = (reads_int, reads_any, reads_arrow, reads_lam, reads_app, re
 
 -- A parameter has no kind, and its floor may be left out.
 module _ (names : List (List ℕ)) (p : ℕ) where
-  param_by : Field → Field → Field → Line
+  param_by : Option ℕ → Option ℕ → Option ℕ → Line
   param_by qualifier typerow floor = given qualifier λ q. given typerow λ t. given floor λ f. ParamLine p (record { qualifier = q; floor = f; typerow = t })
 
-  no_floor_lem : (qualifier typerow : Field) → NoForm ≡ param_by qualifier typerow NoValue
+  no_floor_lem : (qualifier typerow : Option ℕ) → NoForm ≡ param_by qualifier typerow None
   unfolding param_by given
-  no_floor_lem NoValue t = refl
-  no_floor_lem (Value q) NoValue = refl
-  no_floor_lem (Value q) (Value t) = refl
+  no_floor_lem None t = refl
+  no_floor_lem (Some q) None = refl
+  no_floor_lem (Some q) (Some t) = refl
 
-  floor_at : List (List ℕ) → Field
-  floor_at rest = cond (eqb (length rest) 2) (Value 0) (cond (eqb (length rest) 3) (word_of names (get_or rest 2 [])) NoValue)
+  floor_at : List (List ℕ) → Option ℕ
+  floor_at rest = cond (eqb (length rest) 2) (Some 0) (cond (eqb (length rest) 3) (word_of names (get_or rest 2 [])) None)
 
   -- By how many fields there are: too few, both without a floor, with one, or too many.
   made_param : (rest : List (List ℕ)) → made (param_form p) (values_of names (bytes "qnf") rest) ≡ param_by (qualifier_of names (get_or rest 0 [])) (number_of 65535 (get_or rest 1 [])) (floor_at rest)
@@ -149,27 +148,27 @@ module _ (names : List (List ℕ)) (p : ℕ) where
   made_param [] = no_floor_lem (qualifier_of names []) (number_of 65535 [])
   made_param (a ∷ []) = by (qualifier_of names a) ∙ no_floor_lem (qualifier_of names a) (number_of 65535 [])
     where
-      by : (q : Field) → made (param_form p) (onward q no_values λ n. told false (put 113 0 n no_values)) ≡ NoForm
-      by (Value q) = refl
-      by NoValue = refl
+      by : (q : Option ℕ) → made (param_form p) (onward q λ n. None) ≡ NoForm
+      by (Some q) = refl
+      by None = refl
   made_param (a ∷ b ∷ []) = by (qualifier_of names a) (number_of 65535 b)
     where
-      by : (q t : Field) → made (param_form p) (onward q no_values λ q. onward t (put 113 0 q no_values) λ t. told true (put 110 1 t (put 113 0 q no_values))) ≡ param_by q t (Value 0)
-      by (Value q) (Value t) = refl
-      by (Value q) NoValue = refl
-      by NoValue t = refl
+      by : (q t : Option ℕ) → made (param_form p) (onward q λ q. onward t λ t. Some (put 110 1 t (put 113 0 q no_values))) ≡ param_by q t (Some 0)
+      by (Some q) (Some t) = refl
+      by (Some q) None = refl
+      by None t = refl
   made_param (a ∷ b ∷ c ∷ rest) = by (qualifier_of names a) (number_of 65535 b) (word_of names c) rest
     where
-      read : Field → Field → Field → List (List ℕ) → Values
-      read q t f rest = onward q no_values λ q. onward t (put 113 0 q no_values) λ t. onward f (put 110 1 t (put 113 0 q no_values)) λ f. values_from names (put 102 2 f (put 110 1 t (put 113 0 q no_values))) 3 [] rest
+      read : Option ℕ → Option ℕ → Option ℕ → List (List ℕ) → Option Values
+      read q t f rest = onward q λ q. onward t λ t. onward f λ f. values_from names (put 102 2 f (put 110 1 t (put 113 0 q no_values))) 3 [] rest
 
-      by : (q t f : Field) (rest : List (List ℕ)) → made (param_form p) (read q t f rest) ≡ param_by q t (cond (eqb (length (a ∷ b ∷ c ∷ rest)) 2) (Value 0) (cond (eqb (length (a ∷ b ∷ c ∷ rest)) 3) f NoValue))
-      by (Value q) (Value t) (Value f) [] = refl
-      by (Value q) (Value t) (Value f) (d ∷ rest) = simp (ne_eqb (length (a ∷ b ∷ c ∷ d ∷ rest)) 2 (λ e. omega arith), ne_eqb (length (a ∷ b ∷ c ∷ d ∷ rest)) 3 (λ e. omega arith))
-      by (Value q) (Value t) NoValue [] = refl
-      by (Value q) (Value t) NoValue (d ∷ rest) = simp (ne_eqb (length (a ∷ b ∷ c ∷ d ∷ rest)) 2 (λ e. omega arith), ne_eqb (length (a ∷ b ∷ c ∷ d ∷ rest)) 3 (λ e. omega arith))
-      by (Value q) NoValue f rest = refl
-      by NoValue t f rest = refl
+      by : (q t f : Option ℕ) (rest : List (List ℕ)) → made (param_form p) (read q t f rest) ≡ param_by q t (cond (eqb (length (a ∷ b ∷ c ∷ rest)) 2) (Some 0) (cond (eqb (length (a ∷ b ∷ c ∷ rest)) 3) f None))
+      by (Some q) (Some t) (Some f) [] = refl
+      by (Some q) (Some t) (Some f) (d ∷ rest) = simp (ne_eqb (length (a ∷ b ∷ c ∷ d ∷ rest)) 2 (λ e. omega arith), ne_eqb (length (a ∷ b ∷ c ∷ d ∷ rest)) 3 (λ e. omega arith))
+      by (Some q) (Some t) None [] = refl
+      by (Some q) (Some t) None (d ∷ rest) = simp (ne_eqb (length (a ∷ b ∷ c ∷ d ∷ rest)) 2 (λ e. omega arith), ne_eqb (length (a ∷ b ∷ c ∷ d ∷ rest)) 3 (λ e. omega arith))
+      by (Some q) None f rest = refl
+      by None t f rest = refl
 
   module _ (s : List ℕ) (rest : List (List ℕ)) (b : Begun s p 2 rest) where
     at_rest : (j : ℕ) → field s (2 + j) ≡ get_or rest j []
@@ -179,5 +178,5 @@ module _ (names : List (List ℕ)) (p : ℕ) where
     unfolding param_line floor given param_by floor_at
     param_is = simp (b.own, at_rest 0, at_rest 1, at_rest 2, begun_count s p 2 rest b 2, begun_count s p 2 rest b 3)
 
-    pub reads_param : (v : Values) (r : Line) → v ≡ values_of names (bytes "qnf") rest → r ≡ made (param_form p) v → r ≡ param_line names s
+    pub reads_param : (v : Option Values) (r : Line) → v ≡ values_of names (bytes "qnf") rest → r ≡ made (param_form p) v → r ≡ param_line names s
     reads_param v r e f = f ∙ ap (made (param_form p)) e ∙ made_param rest ∙ sym param_is

@@ -1,16 +1,16 @@
 -- The line that an own number and the values of a form make.
 -- Document 01, "Lines and the table".
-use Rattle.std.specs.Prelude.{ℕ, get_or}
-use Rattle.model.specs.Line.{choose}
+use Rattle.std.specs.Prelude.{ℕ, get_or, Option, Some, None}
 use Rattle.model.specs.declared.TypeForm.TheVariants.{Int, Any, Arrow}
 use Rattle.model.specs.declared.Term.TheVariants.{Lam, App, Op, Var, Num, Enc}
 use Rattle.model.specs.declared.Line.{Line}
 use Rattle.model.specs.declared.Line.TheVariants.{TypeLine, ParamLine, TermLine, NoForm}
 use Rattle.tokens.specs.declared.values.Values.{Values}
 
--- Where not all values are there, the line has none of the forms.
-abbrev pub made : (Values → Line) → Values → Line
-made form v = choose v.all (form v) NoForm
+-- Where there are no values, the line has none of the forms.
+abbrev pub made : (Values → Line) → Option Values → Line
+made form (Some v) = form v
+made form None = NoForm
 
 abbrev number_at : Values → ℕ → ℕ
 number_at v k = get_or v.number k 0

@@ -10,7 +10,6 @@ ghost use Rattle.tokens.specs.Part.{fields_from};
 ghost use Rattle.line.specs.Beginning.{Begun};
 
 use model::Line;
-use numbers::Parsed;
 use tokens::{fields, values, words};
 
 // A type row of the number i, whose kind starts at `from`.
@@ -117,8 +116,8 @@ pub fn read(names: &[u8], s: &[u8]) -> Line
     if s.len() < from {
         return Line::NoForm;
     }
-    match fields::number(s, from, values::NUMBER) {
-        Parsed::UpTo(i, end) => tagged_line(names, s, i as u16, end + 1),
-        Parsed::Failed => Line::NoForm,
-    }
+    let Some((i, end)) = fields::number(s, from, values::NUMBER) else {
+        return Line::NoForm;
+    };
+    tagged_line(names, s, i as u16, end + 1)
 }

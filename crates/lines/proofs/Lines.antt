@@ -1,16 +1,19 @@
 -- A text that is not empty is its first line and the lines after it; and the first line of a text's front is the front of its first line.
 use Prim.Native.Nat.{ℕ, zero, suc, ◌+◌, ◌-◌, ◌*◌, ◌^◌, ◌≤◌, ◌<◌, min}
 use native.Mathlib.Omega.{arith}
-use native.Mathlib.Numerals.{add-one}
 use mathlib.Core.Bool.{Bool, true, false, cond}
 use mathlib.Core.List.{List, [], ◌∷◌}
-use mathlib.Core.Path.{◌≡◌, refl, ap, ◌∙◌}
-use lib.Dec.{eqb}
-use lib.ListN.{length, get_or, take, drop, length-drop, drop_of_length-le}
-use lib.Seq.{drop-cons, drop-drop}
+use mathlib.Core.Path.{◌≡◌, refl, sym, ap, ◌∙◌}
+use lib.Dec.{eqb, ltb}
+use lib.ListN.{length, take, drop, length-drop, drop_of_length-le}
+use lib.Seq.{drop-drop, take_all}
 use mir.Syntax.{w64}
 use mir.Val.{Fits}
-use borrow.Author.Tests.{eq-eqb, ne_eqb}
+use borrow.Author.Tests.{ltb-false}
+use Rattle.std.specs.Prelude.{Option, Some, None, nat_eq, unwrap_or, position}
+use Rattle.std.specs.List.{position_or_len, PartBy}
+use Rattle.std.proofs.Common.{inl, inr, one-add}
+use Rattle.std.proofs.lemmas.List.Recursion.{is_position_or_len}
 use Rattle.model.specs.Lists.{length_before}
 use Rattle.model.specs.Line.{onto, lines_of}
 use Rattle.model.proofs.Lists.{before_most}
@@ -59,20 +62,22 @@ module _ (text : List ℕ) (from to : ℕ) (h : from < length text) (is : to ≡
       let next : from + suc (line_length (drop from text)) ≡ to + 1 = omega arith in
       lines-first (drop from text) some ∙ rw (size, drop-drop (suc (line_length (drop from text))) from text, next)
 
--- The loop that looks for a byte: at it, at another byte, and past the last byte.
-module _ (b : ℕ) (s : List ℕ) (i end : ℕ) (left : i + length_before b (drop i s) ≡ end) where
-  pub find_none : length s ≤ i → i ≡ end
-  find_none h = omega (arith, ap (length_before b) (drop_of_length-le s h))
+-- Before the first such byte stand as many bytes as its place says, and else all of them.
+first_or_all : (k n : ℕ) → k ≤ n → unwrap_or (cond (ltb k n) (Some k) None) n ≡ k
+first_or_all k n h = by (ltb k n) refl
+  where
+    by : (t : Bool) → ltb k n ≡ t → unwrap_or (cond t (Some k) None) n ≡ k
+    by true e = refl
+    by false e = omega (arith, ltb-false k n e)
 
-  module _ (h : i < length s) where
-    pub find_here : get_or s i 0 ≡ b → i ≡ end
-    find_here e =
-        let none : length_before b (drop i s) ≡ 0 = simp (drop-cons s i 0 h, eq-eqb (get_or s i 0) b e) in
-        omega arith
+pub place_before : (b : ℕ) (s : List ℕ) → unwrap_or (position (λ c. nat_eq c b) s) (length s) ≡ length_before b s
+place_before b s =
+    let place : length_before b s ≡ position_or_len (λ c. nat_eq c b) s = is_position_or_len (length_before b) (λ c. nat_eq c b) refl (λ x xs. simp one-add) s in
+    first_or_all (position_or_len (λ c. nat_eq c b) s) (length s) (omega (arith, before_most b s)) ∙ sym place
 
-    pub find_other : (get_or s i 0 ≡ b → ⊥) → i + 1 + length_before b (drop (i + 1) s) ≡ end
-    find_other e =
-        let one : length_before b (drop i s) ≡ suc (length_before b (drop (i + 1) s)) = simp (drop-cons s i 0 h, ne_eqb (get_or s i 0) b e, add-one) in
-        omega arith
-
-pub ruleset finds = (find_none, find_here, find_other)
+-- What a slice's part from a place on is, where past the end it is empty.
+pub rest_or_empty : {R : Type 0} (now : R → List ℕ) (s : List ℕ) (from : ℕ) (part : Option R) (empty : R) → now empty ≡ [] →
+    PartBy now s from (length s) part → now (unwrap_or part empty) ≡ drop from s
+rest_or_empty now s from None empty none (inl past, some) = none ∙ sym (drop_of_length-le s (omega arith))
+rest_or_empty now s from None empty none (inr past, some) = absurd (omega arith)
+rest_or_empty now s from (Some r) empty none found = found.0.2 ∙ take_all (length s - from) (drop from s) (omega (arith, length-drop from s))

@@ -9,14 +9,8 @@ ghost use Rattle.lines.specs.Lines.{line_length};
 pub fn find(s: &[u8], from: usize, byte: u8) -> usize
     ensures { result ≡ from + length_before byte (drop from s.now) }
 {
-    let mut i = from;
-    while i < s.len() {
-        if s[i] == byte {
-            return i;
-        }
-        i += 1;
-    }
-    i
+    let rest = s.get(from..).unwrap_or(&[]);
+    from + rest.iter().position(|b| *b == byte).unwrap_or(rest.len())
 }
 
 // The end of the line that starts at `from`: the next line feed, or the end of the text.

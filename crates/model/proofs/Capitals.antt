@@ -8,13 +8,12 @@ use mathlib.Core.Path.{◌≡◌, refl, sym, ap, ap₂, ◌∙◌}
 use lib.Dec.{eqb, leb}
 use lib.ListN.{length, length-map, get_or}
 use borrow.Author.Tests.{le-leb, lt-leb, leb-true, ne_eqb}
+use Rattle.std.specs.Prelude.{Option, Some, None}
 use Rattle.scheme.proofs.Every.{and_left, and_right}
 use Rattle.model.specs.Lists.{all_of, contains, same}
 use Rattle.model.specs.Number.{is_digit, number_of}
 use Rattle.model.specs.Word.{qualifier_words, operation_words, capital, capitals, spells, place_in, word_of, scheme_of, operation_of}
 use Rattle.model.specs.Line.{onto, fields}
-use Rattle.model.specs.declared.Field.{Field}
-use Rattle.model.specs.declared.Field.TheVariants.{Value, NoValue}
 use Rattle.model.proofs.Lists.{same_bytes, same_self}
 
 -- The three ranges of bytes.
@@ -99,7 +98,7 @@ spells_capitals s word = ap (λ (s : List ℕ). same s word) (capitals_again s)
 
 place_capitals : (c : ℕ) (words : List (List ℕ)) (s : List ℕ) → place_in c words (capitals s) ≡ place_in c words s
 place_capitals c [] s = refl
-place_capitals c (word ∷ words) s = ap₂ (λ (t : Bool) (later : Field). cond t (Value c) later) (spells_capitals s word) (place_capitals (c + 1) words s)
+place_capitals c (word ∷ words) s = ap₂ (λ (t : Bool) (later : Option ℕ). cond t (Some c) later) (spells_capitals s word) (place_capitals (c + 1) words s)
 
 module _ (names : List (List ℕ)) where
   pub word_capitals : (s : List ℕ) → word_of names (capitals s) ≡ word_of names s
@@ -128,7 +127,7 @@ digits_stay (b ∷ bs) h =
     let digit : b ≤ 57 = leb-true b 57 (and_right (leb 48 b) (leb b 57) (and_left (is_digit b) (all_of is_digit bs) h)) in
     ap₂ ◌∷◌ (sym (capital_before b (omega arith))) (digits_stay bs (and_right (is_digit b) (all_of is_digit bs) h))
 
-no_number : (most : ℕ) (s : List ℕ) → all_of is_digit s ≡ false → number_of most s ≡ NoValue
+no_number : (most : ℕ) (s : List ℕ) → all_of is_digit s ≡ false → number_of most s ≡ None
 unfolding number_of
 no_number most s h = simp (h, and-false)
 

@@ -7,10 +7,10 @@ use mathlib.Core.Path.{◌≡◌, refl}
 use lib.Dec.{eqb, leb}
 use lib.ListN.{length}
 use borrow.Author.Tests.{eqb-false, leb-true, lt-leb, not-true}
+use Rattle.std.specs.Prelude.{Some, None}
 use Rattle.scheme.proofs.Every.{and_left}
 use Rattle.model.specs.Lists.{all_of}
 use Rattle.model.specs.Number.{is_digit, value_from, number_of}
-use Rattle.model.specs.declared.Field.TheVariants.{Value, NoValue}
 
 pub value_grows : (n : ℕ) (s : List ℕ) → n ≤ value_from n s
 value_grows n [] = omega arith
@@ -42,7 +42,7 @@ first_digit b more led digits =
     let other : b ≡ 48 → ⊥ = eqb-false b 48 (not-true (eqb b 48) led) in
     omega arith
 
-pub long_number : (s : List ℕ) → 10 < length s → number_of 4294967295 s ≡ NoValue
+pub long_number : (s : List ℕ) → 10 < length s → number_of 4294967295 s ≡ None
 unfolding number_of
 long_number [] h = absurd (omega arith)
 long_number (b ∷ []) h = absurd (omega arith)
@@ -51,7 +51,7 @@ long_number (b ∷ c ∷ bs) h = by (not (eqb b 48)) (is_digit b && all_of is_di
     value : ℕ
     value = value_from 0 (b ∷ c ∷ bs)
 
-    by : (led digits : Bool) → (led ≡ true → digits ≡ true → 4294967295 < value) → cond (led && digits && leb value 4294967295) (Value value) NoValue ≡ NoValue
+    by : (led digits : Bool) → (led ≡ true → digits ≡ true → 4294967295 < value) → cond (led && digits && leb value 4294967295) (Some value) None ≡ None
     by false digits large = refl
     by true false large = refl
     by true true large = simp (lt-leb value 4294967295 (large refl refl))

@@ -7,10 +7,10 @@ use mathlib.Core.Path.{◌≡◌, refl, sym, ◌∙◌}
 use lib.Dec.{eqb, leb}
 use lib.ListN.{get_or}
 use borrow.Author.Tests.{le-leb, leb-true, ne_eqb, eqb-false, not-true}
+use Rattle.std.specs.Prelude.{Some, None}
 use Rattle.scheme.proofs.Every.{and_left, and_right, and_both}
 use Rattle.model.specs.Lists.{all_of}
 use Rattle.model.specs.Number.{is_digit, value_from, no_leading_zero, number_of}
-use Rattle.model.specs.declared.Field.TheVariants.{Value, NoValue}
 use Rattle.model.proofs.Digits.{value_grows}
 
 -- The bytes are digits of the value n without a leading zero; where n is not 0 the first is no 0, so that digits may follow.
@@ -100,13 +100,13 @@ shorter_numeral n x w b m =
     }
 
 -- The definition of a number takes such bytes, and no others.
-pub numeral_number : (most n : ℕ) (s : List ℕ) → Numeral n s → n ≤ most → number_of most s ≡ Value n
+pub numeral_number : (most n : ℕ) (s : List ℕ) → Numeral n s → n ≤ most → number_of most s ≡ Some n
 unfolding number_of
 numeral_number most n s m h = simp (m.led, m.all_digits, m.value, le-leb n most h)
 
 module _ (most : ℕ) (s : List ℕ) where
   -- The definition's tests, one by one.
-  by_tests : {P : Type 0} → ((value_from 0 s ≤ most) → Numeral (value_from 0 s) s → P) → (number_of most s ≡ NoValue → P) → P
+  by_tests : {P : Type 0} → ((value_from 0 s ≤ most) → Numeral (value_from 0 s) s → P) → (number_of most s ≡ None → P) → P
   unfolding number_of
   by_tests {P} some none = go (no_leading_zero s) (all_of is_digit s) (leb (value_from 0 s) most) refl refl refl none
     where
@@ -116,17 +116,17 @@ module _ (most : ℕ) (s : List ℕ) where
       first (x ∷ y ∷ w) l p e = eqb-false x 48 (not-true (eqb x 48) l) e
 
       go : (led digits small : Bool) → no_leading_zero s ≡ led → all_of is_digit s ≡ digits → leb (value_from 0 s) most ≡ small →
-          (cond (led && digits && small) (Value (value_from 0 s)) NoValue ≡ NoValue → P) → P
+          (cond (led && digits && small) (Some (value_from 0 s)) None ≡ None → P) → P
       go true true true l d e none = some (leb-true (value_from 0 s) most e) (record { all_digits = d; value = refl; led = l; first = first s l })
       go true true false l d e none = none refl
       go true false small l d e none = none refl
       go false digits small l d e none = none refl
 
-  pub number_numeral : (n : ℕ) → number_of most s ≡ Value n → Numeral n s × (n ≤ most)
+  pub number_numeral : (n : ℕ) → number_of most s ≡ Some n → Numeral n s × (n ≤ most)
   number_numeral n e = by_tests some (λ none. let z : ◌≡◌ {A = ℕ} 0 1 = cc in absurd (omega arith))
     where
       some : value_from 0 s ≤ most → Numeral (value_from 0 s) s → Numeral n s × (n ≤ most)
       some h m = let is : value_from 0 s ≡ n = cc (numeral_number most (value_from 0 s) s m h) in (rw is at m, omega arith)
 
-  pub no_number : ((n : ℕ) → Numeral n s → n ≤ most → ⊥) → number_of most s ≡ NoValue
+  pub no_number : ((n : ℕ) → Numeral n s → n ≤ most → ⊥) → number_of most s ≡ None
   no_number none = by_tests (λ h m. absurd (none (value_from 0 s) m h)) (λ e. e)

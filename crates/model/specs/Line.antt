@@ -1,11 +1,9 @@
 -- Which bytes are which line.
 -- Document 01, "Lines and the table"; document 02, a) and d).
-use Rattle.std.specs.Prelude.{ℕ, Bool, cond, List, [], ◌∷◌, eqb, leb, length, get_or}
+use Rattle.std.specs.Prelude.{ℕ, Bool, cond, List, [], ◌∷◌, eqb, leb, length, get_or, Option, Some, None}
 use Rattle.model.specs.Lists.{same, bytes}
 use Rattle.model.specs.Number.{number_of}
 use Rattle.model.specs.Word.{spells, word_of, qualifier_of, scheme_of, operation_of}
-use Rattle.model.specs.declared.Field.{Field}
-use Rattle.model.specs.declared.Field.TheVariants.{Value, NoValue}
 use Rattle.model.specs.declared.TypeForm.TheVariants.{Int, Any, Arrow}
 use Rattle.model.specs.declared.Term.TheVariants.{Lam, App, Op, Var, Num, Enc}
 use Rattle.model.specs.declared.Line.{Line}
@@ -31,31 +29,31 @@ abbrev pub field : List ℕ → ℕ → List ℕ
 field s k = get_or (fields s) k []
 
 -- "every other number is 0 to 65535"
-abbrev pub number : List ℕ → ℕ → Field
+abbrev pub number : List ℕ → ℕ → Option ℕ
 number s k = number_of 65535 (field s k)
 
 -- "`n` is 0 to 4294967295"
-abbrev pub literal : List ℕ → ℕ → Field
+abbrev pub literal : List ℕ → ℕ → Option ℕ
 literal s k = number_of 4294967295 (field s k)
 
 -- Words follow the scheme table's names.
-abbrev pub qualifier : List (List ℕ) → List ℕ → ℕ → Field
+abbrev pub qualifier : List (List ℕ) → List ℕ → ℕ → Option ℕ
 qualifier names s k = qualifier_of names (field s k)
 
 -- Document 02, a): "A P line may carry a fifth field, one of the .. qualifier words; four fields mean PLAIN." Any other count has no floor.
-unfoldable pub floor : List (List ℕ) → List ℕ → Field
-floor names s = cond (eqb (length (fields s)) 4) (Value 0) (cond (eqb (length (fields s)) 5) (word_of names (field s 4)) NoValue)
+unfoldable pub floor : List (List ℕ) → List ℕ → Option ℕ
+floor names s = cond (eqb (length (fields s)) 4) (Some 0) (cond (eqb (length (fields s)) 5) (word_of names (field s 4)) None)
 
-abbrev pub scheme : List (List ℕ) → List ℕ → ℕ → Field
+abbrev pub scheme : List (List ℕ) → List ℕ → ℕ → Option ℕ
 scheme names s k = scheme_of names (field s k)
 
-abbrev pub operation : List ℕ → ℕ → Field
+abbrev pub operation : List ℕ → ℕ → Option ℕ
 operation s k = operation_of (field s k)
 
 -- A field's value goes into the rest; without one the line has none of the forms.
-unfoldable pub given : Field → (ℕ → Line) → Line
-given (Value n) rest = rest n
-given NoValue rest = NoForm
+unfoldable pub given : Option ℕ → (ℕ → Line) → Line
+given (Some n) rest = rest n
+given None rest = NoForm
 
 unfoldable pub choose : Bool → Line → Line → Line
 choose test a b = cond test a b

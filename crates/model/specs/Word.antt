@@ -1,10 +1,8 @@
 -- The words of a line and of the report, with their codes.
 -- Document 01, "Schemes and their order" and "Lines and the table"; document 02, a), c) and d).
-use Rattle.std.specs.Prelude.{ℕ, ◌+◌, ◌-◌, Bool, ◌&&◌, cond, List, [], ◌∷◌, map, eqb, leb, length, get_or}
+use Rattle.std.specs.Prelude.{ℕ, ◌+◌, ◌-◌, Bool, ◌&&◌, cond, List, [], ◌∷◌, map, eqb, leb, length, get_or, Option, Some, None}
 use Rattle.model.specs.Lists.{same, bytes}
 use Rattle.model.specs.Number.{number_of}
-use Rattle.model.specs.declared.Field.{Field}
-use Rattle.model.specs.declared.Field.TheVariants.{Value, NoValue}
 
 -- "Qualifier words in lines and codes in redeclare follow the file": PLAIN, then the schemes' names.
 abbrev pub qualifier_words : List (List ℕ) → List (List ℕ)
@@ -27,38 +25,38 @@ unfoldable pub spells : List ℕ → List ℕ → Bool
 spells s word = same (capitals s) word
 
 -- The place of the word in a list of words, counted from c.
-abbrev pub place_in : ℕ → List (List ℕ) → List ℕ → Field
-place_in c [] s = NoValue
-place_in c (word ∷ words) s = cond (spells s word) (Value c) (place_in (c + 1) words s)
+abbrev pub place_in : ℕ → List (List ℕ) → List ℕ → Option ℕ
+place_in c [] s = None
+place_in c (word ∷ words) s = cond (spells s word) (Some c) (place_in (c + 1) words s)
 
 -- The first value, and the second where there is none.
-abbrev pub or_else : Field → Field → Field
-or_else (Value n) other = Value n
-or_else NoValue other = other
+abbrev pub or_else : Option ℕ → Option ℕ → Option ℕ
+or_else (Some n) other = Some n
+or_else None other = other
 
 -- "a named qualifier variable": its code is its number and the number of words, "variables after them".
-abbrev pub variable_code : ℕ → Field → Field
-variable_code n (Value k) = Value (k + n)
-variable_code n NoValue = NoValue
+abbrev pub variable_code : ℕ → Option ℕ → Option ℕ
+variable_code n (Some k) = Some (k + n)
+variable_code n None = None
 
 -- "`g0` to `g63`", after n words
-abbrev pub variable_of : ℕ → List ℕ → Field
-variable_of n [] = NoValue
-variable_of n (b ∷ bs) = cond (eqb b 103) (variable_code n (number_of 63 bs)) NoValue
+abbrev pub variable_of : ℕ → List ℕ → Option ℕ
+variable_of n [] = None
+variable_of n (b ∷ bs) = cond (eqb b 103) (variable_code n (number_of 63 bs)) None
 
 -- Document 02, a): "one of the .. qualifier words".
-unfoldable pub word_of : List (List ℕ) → List ℕ → Field
+unfoldable pub word_of : List (List ℕ) → List ℕ → Option ℕ
 word_of names s = place_in 0 (qualifier_words names) s
 
 -- "`q` is a qualifier word or `g0` to `g63`"
-unfoldable pub qualifier_of : List (List ℕ) → List ℕ → Field
+unfoldable pub qualifier_of : List (List ℕ) → List ℕ → Option ℕ
 qualifier_of names s = or_else (word_of names s) (variable_of (length (qualifier_words names)) s)
 
 -- "`s` one of the .. schemes": a qualifier word that is not PLAIN.
-unfoldable pub scheme_of : List (List ℕ) → List ℕ → Field
+unfoldable pub scheme_of : List (List ℕ) → List ℕ → Option ℕ
 scheme_of names s = place_in 1 names s
 
-unfoldable pub operation_of : List ℕ → Field
+unfoldable pub operation_of : List ℕ → Option ℕ
 operation_of s = place_in 0 operation_words s
 
 -- The word of a qualifier's code, as the report has it. No code past the words is asked for.

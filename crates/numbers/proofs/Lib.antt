@@ -2,4 +2,3 @@ pub mod Feeding
 pub mod Ends
 pub mod Passes
 pub mod OnePass
-pub mod Linkage

@@ -3,11 +3,8 @@
 
 ghost use Rattle.std.specs.Prelude.{[], ◌≡◌};
 ghost use Rattle.model.specs.Number.{number_of};
-ghost use Rattle.model.specs.declared.Field.TheVariants.{Value, NoValue};
 ghost use Rattle.numbers.specs.OnePass.{kept, after, Feeds, Answers};
-ghost use Rattle.numbers.specs.NumberTo.{with_end, number_to};
-
-use model::Field;
+ghost use Rattle.numbers.specs.NumberTo.{number_to};
 
 // The largest upper end that a number can have.
 pub const LARGEST: u32 = 4294967295;
@@ -16,18 +13,11 @@ pub const LARGEST: u32 = 4294967295;
 const PAST: u64 = 4294967296;
 
 // What is kept of the bytes so far: the number that they are, or a number past every upper end where they are none and no further byte makes them one;
-// and whether there was a byte at all.
+// and whether there was a byte at all. Request g) of document 02 asks for these two fields: "with only the number so far and one mark kept".
 #[derive(Clone, Copy)]
 pub struct Reader {
     number: u64,
     begun: bool,
-}
-
-// A value, and where its bytes end.
-#[derive(Clone, Copy)]
-pub enum Parsed {
-    UpTo(u32, usize),
-    Failed,
 }
 
 impl Reader {
@@ -69,22 +59,22 @@ impl Reader {
     }
 
     // What the bytes are as a whole field, where numbers go up to `most`.
-    pub fn answer(self, most: u32) -> Field
+    pub fn answer(self, most: u32) -> Option<u32>
         ensures { Answers self most result }
     {
         if self.number > most as u64 {
-            return Field::NoValue;
+            return None;
         }
         if self.begun {
-            return Field::Value(self.number as u32);
+            return Some(self.number as u32);
         }
-        Field::NoValue
+        None
     }
 }
 
 // What is kept of a number.
 fn number(n: u64) -> Reader
-    ensures { result ≡ kept (Value n) }
+    ensures { result ≡ kept (Some n) }
 {
     Reader {
         number: n,
@@ -94,7 +84,7 @@ fn number(n: u64) -> Reader
 
 // What is kept of bytes that no further one makes a number.
 fn broken() -> Reader
-    ensures { result ≡ kept NoValue }
+    ensures { result ≡ kept None }
 {
     Reader {
         number: PAST,
@@ -103,41 +93,26 @@ fn broken() -> Reader
 }
 
 // The number that the bytes spell, where it is at most `most`.
-pub fn number_in(s: &[u8], most: u32) -> Field
+pub fn number_in(s: &[u8], most: u32) -> Option<u32>
     ensures { result ≡ number_of most s.now }
 {
-    let mut reader = Reader::start();
-    let mut i = 0;
-    while i < s.len() {
-        reader = reader.feed(s[i]);
-        i += 1;
+    let mut field = Reader::start();
+    for &b in s {
+        field = field.feed(b);
     }
-    reader.answer(most)
+    field.answer(most)
 }
 
-// The number that stands from a place to the next such byte, or to the end: its bytes are read as that byte is looked for.
-pub fn number_to(s: &[u8], from: usize, byte: u8, most: u32) -> Parsed
+// The number that stands from a place to the next such byte, or to the end, with that end: its bytes are read as that byte is looked for.
+pub fn number_to(s: &[u8], from: usize, byte: u8, most: u32) -> Option<(u32, usize)>
     ensures { result ≡ number_to byte most s.now from }
 {
     let mut reader = Reader::start();
-    let mut i = from;
-    while i < s.len() {
-        let b = s[i];
-        if b == byte {
-            return with_end(reader.answer(most), i);
+    for i in from..s.len() {
+        if s[i] == byte {
+            return reader.answer(most).map(|n| (n, i));
         }
-        reader = reader.feed(b);
-        i += 1;
+        reader = reader.feed(s[i]);
     }
-    with_end(reader.answer(most), i)
-}
-
-// A field's value with the place where the field ends.
-pub fn with_end(value: Field, end: usize) -> Parsed
-    ensures { result ≡ with_end value end }
-{
-    match value {
-        Field::Value(n) => Parsed::UpTo(n, end),
-        Field::NoValue => Parsed::Failed,
-    }
+    reader.answer(most).map(|n| (n, s.len()))
 }

@@ -1,7 +1,7 @@
 // The line reader for callers outside Rattle, which take numbers and slices and no enum.
 #![tactic(auto)]
 
-ghost use Rattle.std.specs.Prelude.{◌≡◌, ◌++◌, ◌≤◌, length, drop};
+ghost use Rattle.std.specs.Prelude.{◌≡◌};
 ghost use Rattle.test_line_export.specs.Encoding.{type_numbers, term_numbers, numbers, ReadInto};
 
 use model::{Line, Term, TypeForm};
@@ -50,18 +50,6 @@ fn line_numbers(line: Line) -> [u32; 6]
     }
 }
 
-// Puts all the numbers of one slice at the start of another.
-fn copy(from: &[u32], to: &mut [u32])
-    requires { length from.now ≤ length to.old }
-    ensures { to.new ≡ from.now ++ drop (length from.now) to.old }
-{
-    let mut i = 0;
-    while i < from.len() {
-        to[i] = from[i];
-        i += 1;
-    }
-}
-
 // Reads a line and writes its six numbers; answers how many were written, 0 where the buffer is shorter.
 #[unsafe(no_mangle)]
 pub extern "C" fn read_line(s: &[u8], out: &mut [u32]) -> u32
@@ -71,6 +59,6 @@ pub extern "C" fn read_line(s: &[u8], out: &mut [u32]) -> u32
         return 0;
     }
     let values = line_numbers(line::read(&NAMES, s));
-    copy(&values, out);
+    out[..6].copy_from_slice(&values);
     6
 }

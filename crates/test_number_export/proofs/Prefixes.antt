@@ -7,8 +7,8 @@ use mathlib.Core.Path.{◌≡◌, refl, ap, ◌∙◌}
 use lib.ListN.{length, get_or, set, take, drop, length-set, length-append}
 use lib.Seq.{drop-cons, set_at}
 use borrow.Author.Tests.{le-leb, lt-leb}
+use Rattle.std.specs.Prelude.{Option}
 use Rattle.model.specs.Number.{number_of}
-use Rattle.model.specs.declared.Field.{Field}
 use Rattle.numbers.specs.OnePass.{after, Feeds, Answers}
 use Rattle.numbers.specs.declared.Reader.{Reader}
 use Rattle.numbers.proofs.Passes.{Passed, pass_first, pass_next, pass_answer}
@@ -34,7 +34,7 @@ pub ask_first : (most : ℕ) (s before : List ℕ) (reader : Reader) → length 
 unfolding answers_before
 ask_first most s before reader h e = record { within = omega arith; room = h; passed = pass_first s 0 reader e; long = refl; holds = refl }
 
-module _ (most : ℕ) (s before out : List ℕ) (i : ℕ) (reader : Reader) (asked : Asked most s before out i reader) (answer : Field) (answers : Answers reader most answer) (v : ℕ) (is : v ≡ code_of answer) where
+module _ (most : ℕ) (s before out : List ℕ) (i : ℕ) (reader : Reader) (asked : Asked most s before out i reader) (answer : Option ℕ) (answers : Answers reader most answer) (v : ℕ) (is : v ≡ code_of answer) where
   stored : set out i v ≡ answers_before most s (suc i) ++ drop (suc i) before
   unfolding answers_before
   stored =

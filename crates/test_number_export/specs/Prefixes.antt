@@ -1,14 +1,12 @@
 -- The numbers that the fronts of some bytes are, for a caller that knows no enum.
 -- Document 02, g): "After any bytes it answers as the reader does for them as a whole field."
-use Rattle.std.specs.Prelude.{ℕ, zero, suc, cond, List, [], ◌∷◌, ◌++◌, ◌≡◌, leb, length, take, drop}
+use Rattle.std.specs.Prelude.{ℕ, zero, suc, cond, List, [], ◌∷◌, ◌++◌, ◌≡◌, leb, length, take, drop, Option, Some, None}
 use Rattle.model.specs.Number.{number_of}
-use Rattle.model.specs.declared.Field.{Field}
-use Rattle.model.specs.declared.Field.TheVariants.{Value, NoValue}
 
 -- More than any number is, where there is none.
-abbrev pub code_of : Field → ℕ
-code_of (Value n) = n
-code_of NoValue = 4294967296
+abbrev pub code_of : Option ℕ → ℕ
+code_of (Some n) = n
+code_of None = 4294967296
 
 -- Those of the fronts of fewer than n bytes, the empty one first.
 unfoldable pub answers_before : ℕ → List ℕ → ℕ → List ℕ

@@ -4,19 +4,15 @@
 ghost use Rattle.std.specs.Prelude.{◌≡◌};
 ghost use Rattle.test_number_export.specs.Prefixes.{code_of, AnswersInto};
 
-use model::Field;
 use numbers::Reader;
 
-// Where there is no number: more than any number is.
+// Where there is no number, as C takes no Option: more than any number is.
 const NONE: u64 = 4294967296;
 
-fn code(answer: Field) -> u64
+fn code(answer: Option<u32>) -> u64
     ensures { result ≡ code_of answer }
 {
-    match answer {
-        Field::Value(n) => n as u64,
-        Field::NoValue => NONE,
-    }
+    answer.map_or(NONE, u64::from)
 }
 
 // Writes the answer for each front of the bytes, the empty one first; returns how many were written, 0 where the buffer is shorter.
@@ -28,12 +24,10 @@ pub extern "C" fn number_answers(s: &[u8], most: u32, out: &mut [u64]) -> usize
         return 0;
     }
     let mut reader = Reader::start();
-    let mut i = 0;
-    while i < s.len() {
+    for (i, &b) in s.iter().enumerate() {
         out[i] = code(reader.answer(most));
-        reader = reader.feed(s[i]);
-        i += 1;
+        reader = reader.feed(b);
     }
-    out[i] = code(reader.answer(most));
-    i + 1
+    out[s.len()] = code(reader.answer(most));
+    s.len() + 1
 }

@@ -3,4 +3,3 @@ pub mod Bounds
 pub mod Spelling
 pub mod Reading
 pub mod RoundTrip
-pub mod Linkage

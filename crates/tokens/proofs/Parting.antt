@@ -7,14 +7,17 @@ use mathlib.Core.Bool.{Bool, true, false, cond}
 use mathlib.Core.List.{List, [], ◌∷◌}
 use mathlib.Core.Path.{◌≡◌, refl, sym, ap, ◌∙◌}
 use lib.Dec.{eqb, leb, leb-suc-suc}
-use lib.ListN.{length, get_or, take, drop, length-drop, drop_of_length-le}
+use lib.ListN.{length, get_or, take, drop, length-drop}
 use lib.Seq.{drop-cons, drop-drop}
 use borrow.Author.Tests.{ne_eqb, le-leb, lt-leb}
+use Rattle.std.specs.Prelude.{nat_eq, Option, Some, None, option_map, unwrap_or, slice_get}
+use Rattle.std.proofs.lemmas.Option.{unwrap_or-slice_get}
+use Rattle.std.specs.List.{slice_split, onto_first as slice_onto}
 use Rattle.model.specs.Lists.{length_before}
 use Rattle.model.specs.Line.{onto, fields, field}
 use Rattle.numbers.specs.NumberTo.{next_place, bytes_to}
 use Rattle.numbers.proofs.Ends.{next_within}
-use Rattle.tokens.specs.Part.{fields_from, FieldAt, FieldTo}
+use Rattle.tokens.specs.Part.{fields_from, FieldTo}
 
 -- A byte more in front of the first field leaves the later fields, and how many there are.
 pub onto_first : (b : ℕ) (fs : List (List ℕ)) → get_or (onto b fs) 0 [] ≡ b ∷ get_or fs 0 []
@@ -39,11 +42,6 @@ some_field (b ∷ bs) = by (eqb b 44) (some_field bs)
     by true h = omega arith
     by false h = omega (arith, onto_length b (fields bs) h)
 
--- Past the end there is one field, and it is empty.
-past_end : (s : List ℕ) (i k : ℕ) → length s ≤ i → field (drop i s) k ≡ []
-past_end s i zero h = simp (drop_of_length-le s h)
-past_end s i (suc k) h = simp (drop_of_length-le s h)
-
 -- Byte i of the line is a comma, or is none.
 module _ (s : List ℕ) (i : ℕ) (h : i < length s) where
   pub at_comma : get_or s i 0 ≡ 44 → fields (drop i s) ≡ [] ∷ fields (drop (i + 1) s)
@@ -51,29 +49,6 @@ module _ (s : List ℕ) (i : ℕ) (h : i < length s) where
 
   pub at_other : (get_or s i 0 ≡ 44 → ⊥) → fields (drop i s) ≡ onto (get_or s i 0) (fields (drop (i + 1) s))
   at_other e = simp (drop-cons s i 0 h, ne_eqb (get_or s i 0) 44 e, add-one)
-
--- The start of a field: field k is the field that many commas further on.
-pub start_first : (s : List ℕ) (k : ℕ) → FieldAt s k 0 k
-start_first s k = record { within = omega arith; same = refl }
-
-pub start_here : (s : List ℕ) (k i j : ℕ) → FieldAt s k i j → j ≡ 0 → FieldAt s k i 0
-start_here s k i j f e = record { within = f.within; same = f.same ∙ simp e }
-
-pub start_none : (s : List ℕ) (k i j : ℕ) → FieldAt s k i j → length s ≤ i → FieldAt s k i 0
-start_none s k i j f h = record { within = f.within; same = f.same ∙ past_end s i j h ∙ sym (past_end s i 0 h) }
-
-module _ (s : List ℕ) (k i j : ℕ) (f : FieldAt s k i j) (more : j ≡ 0 → ⊥) (h : i < length s) where
-  pub start_comma : get_or s i 0 ≡ 44 → FieldAt s k (i + 1) (j - 1)
-  start_comma e = record { within = omega arith; same = f.same ∙ simp (at_comma s i h e) (later j more) }
-    where
-      later : (n : ℕ) → (n ≡ 0 → ⊥) → get_or ([] ∷ fields (drop (i + 1) s)) n [] ≡ field (drop (i + 1) s) (n - 1)
-      later zero m = absurd (m refl)
-      later (suc n) m = let e : suc n - 1 ≡ n = omega arith in rw e
-
-  pub start_other : (get_or s i 0 ≡ 44 → ⊥) → FieldAt s k (i + 1) j
-  start_other e = record { within = omega arith; same = f.same ∙ simp (at_other s i h e) (onto_later (get_or s i 0) (fields (drop (i + 1) s)) j more) }
-
-pub ruleset starts = (start_first, start_here, start_none, start_comma, start_other)
 
 -- The fields from a place on.
 pub from_within : (s : List ℕ) (i : ℕ) → i ≤ length s → fields_from s i ≡ fields (drop i s)
@@ -119,10 +94,27 @@ module _ (s : List ℕ) (from : ℕ) (h : from ≤ length s) where
       let place : next_place 44 s from ≡ to = sym is in
       record { after = omega arith; within = omega (arith, next_within 44 s from h); place = is; parts = field_first ∙ rw (place, size) }
 
--- A field from its start to its end.
-pub field_whole : (s : List ℕ) (k from to : ℕ) → FieldAt s k from 0 → FieldTo s from to → take (to - from) (drop from s) ≡ field s k
-field_whole s k from to f g =
-    sym (f.same ∙ ap (λ (fs : List (List ℕ)). get_or fs 0 []) (sym (from_within s from f.within) ∙ g.parts))
+-- A line is cut at its commas as the library cuts a slice.
+pub fields_split : (s : List ℕ) → slice_split (λ b. nat_eq b 44) s ≡ fields s
+fields_split [] = refl
+fields_split (b ∷ bs) = by (eqb b 44) (fields_split bs)
+  where
+    front : (fs : List (List ℕ)) → slice_onto b fs ≡ onto b fs
+    front [] = refl
+    front (f ∷ fs) = refl
+
+    by : (t : Bool) → slice_split (λ b. nat_eq b 44) bs ≡ fields bs → cond t ([] ∷ slice_split (λ b. nat_eq b 44) bs) (slice_onto b (slice_split (λ b. nat_eq b 44) bs)) ≡ cond t ([] ∷ fields bs) (onto b (fields bs))
+    by true e = ap (λ (fs : List (List ℕ)). [] ∷ fs) e
+    by false e = ap (slice_onto b) e ∙ front (fields bs)
+
+-- The part at a place, which is empty where there is none.
+pub part_or_empty : {R : Type 0} (now : R → List ℕ) (part : Option R) (empty : R) (s : List ℕ) (k : ℕ) → now empty ≡ [] → option_map now part ≡ slice_get (slice_split (λ b. nat_eq b 44) s) k → now (unwrap_or part empty) ≡ field s k
+part_or_empty {R} now part empty s k none is =
+    by part ∙ ap (unwrap_or (option_map now part)) none ∙ ap (λ (o : Option (List ℕ)). unwrap_or o []) is ∙ unwrap_or-slice_get (slice_split (λ b. nat_eq b 44) s) k [] ∙ ap (λ (fs : List (List ℕ)). get_or fs k []) (fields_split s)
+  where
+    by : (part : Option R) → now (unwrap_or part empty) ≡ unwrap_or (option_map now part) (now empty)
+    by None = refl
+    by (Some r) = refl
 
 -- A text has at most one field more than bytes.
 pub fields_most : (s : List ℕ) → length (fields s) ≤ suc (length s)
@@ -132,21 +124,3 @@ fields_most (b ∷ bs) = by (eqb b 44) (fields_most bs)
     by : (t : Bool) → length (fields bs) ≤ suc (length bs) → length (cond t ([] ∷ fields bs) (onto b (fields bs))) ≤ suc (suc (length bs))
     by true h = omega arith
     by false h = omega (arith, onto_length b (fields bs) (some_field bs))
-
--- How many fields there are: those that were passed, and those of the rest, of which the first was begun.
-abbrev pub Counted : List ℕ → ℕ → ℕ → Type 0
-Counted s n i = length (fields s) + 1 ≡ n + length (fields (drop i s))
-
-module _ (s : List ℕ) (n i : ℕ) (c : Counted s n i) where
-  pub count_end : length s ≤ i → n ≡ length (fields s)
-  count_end h = omega (arith, ap (λ (l : List ℕ). length (fields l)) (drop_of_length-le s h))
-
-  module _ (h : i < length s) where
-    pub count_comma : get_or s i 0 ≡ 44 → Counted s (n + 1) (i + 1)
-    count_comma e = omega (arith, ap length (at_comma s i h e))
-
-    pub count_other : (get_or s i 0 ≡ 44 → ⊥) → Counted s n (i + 1)
-    count_other e =
-        omega (arith, ap length (at_other s i h e), onto_length (get_or s i 0) (fields (drop (i + 1) s)) (some_field (drop (i + 1) s)))
-
-pub ruleset counts = (count_end, count_comma, count_other)

@@ -7,12 +7,11 @@ use mathlib.Core.Path.{◌≡◌, refl, sym, ap, ◌∙◌}
 use lib.Dec.{eqb, ltb}
 use lib.ListN.{get_or}
 use borrow.Author.Tests.{ltb-true, ltb-false, eqb-true}
+use Rattle.std.specs.Prelude.{Option, Some, None}
 use Rattle.scheme.proofs.Every.{every_at}
 use Rattle.model.specs.Number.{is_digit, number_of, digits, decimal}
 use Rattle.model.specs.Word.{qualifier_words, capital, capitals, spells, place_in, variable_code, word_of, qualifier_of, qualifier_word}
 use Rattle.scheme.specs.Six.{six_table}
-use Rattle.model.specs.declared.Field.{Field}
-use Rattle.model.specs.declared.Field.TheVariants.{Value, NoValue}
 use Rattle.model.proofs.Numerals.{Numeral, is_digit_lem, one_digit, longer_numeral, numeral_number}
 use Rattle.model.proofs.Capitals.{spells_exactly, word_capitals}
 use Rattle.tokens.proofs.Bounds.{none_is_none, place_between}
@@ -35,35 +34,35 @@ digits_numeral (suc fuel) n h = by (ltb n 10) refl (digits_numeral fuel (n / 10)
         let whole : n / 10 * 10 + (48 + n % 10 - 48) ≡ n = omega arith in
         rw whole at (longer_numeral (n / 10) (48 + n % 10) (digits fuel (n / 10)) (omega arith) (written_digit (n % 10) (omega arith)) (shorter (omega arith)))
 
-pub number_of_decimal : (most n : ℕ) → n ≤ most → number_of most (decimal n) ≡ Value n
+pub number_of_decimal : (most n : ℕ) → n ≤ most → number_of most (decimal n) ≡ Some n
 unfolding decimal
 number_of_decimal most n h = numeral_number most n (digits n n) (digits_numeral n n (omega arith)) h
 
 -- The seven words, one computed test.
-is_value : ℕ → Field → Bool
-is_value c (Value n) = eqb n c
-is_value c NoValue = false
+is_value : ℕ → Option ℕ → Bool
+is_value c (Some n) = eqb n c
+is_value c None = false
 
-is_value_lem : (c : ℕ) (f : Field) → is_value c f ≡ true → f ≡ Value c
+is_value_lem : (c : ℕ) (f : Option ℕ) → is_value c f ≡ true → f ≡ Some c
 unfolding is_value
-is_value_lem c (Value n) e = ap Value (eqb-true n c e)
-is_value_lem c NoValue e = let z : ◌≡◌ {A = ℕ} 0 1 = cc in absurd (omega arith)
+is_value_lem c (Some n) e = ap Some (eqb-true n c e)
+is_value_lem c None e = let z : ◌≡◌ {A = ℕ} 0 1 = cc in absurd (omega arith)
 
 -- The names of the built-in six.
 abbrev six_names : List (List ℕ)
 six_names = six_table.names
 
-pub word_of_word : (c : ℕ) → c < 7 → word_of six_names (qualifier_word six_names c) ≡ Value c
+pub word_of_word : (c : ℕ) → c < 7 → word_of six_names (qualifier_word six_names c) ≡ Some c
 unfolding capital spells word_of qualifier_word is_value
 word_of_word c h = is_value_lem c (word_of six_names (qualifier_word six_names c)) (every_at 7 (λ k. is_value k (word_of six_names (qualifier_word six_names k))) refl c h)
 
 -- A field is the word of a code exactly where its capitals are the word that is written for the code.
-place_spelled : (c : ℕ) (words : List (List ℕ)) (s : List ℕ) (n : ℕ) → place_in c words s ≡ Value n → capitals s ≡ get_or words (n - c) []
+place_spelled : (c : ℕ) (words : List (List ℕ)) (s : List ℕ) (n : ℕ) → place_in c words s ≡ Some n → capitals s ≡ get_or words (n - c) []
 place_spelled c [] s n e = none_is_none n e
 place_spelled c (word ∷ words) s n e = by (spells s word) refl e (place_spelled (c + 1) words s n)
   where
-    by : (t : Bool) → spells s word ≡ t → cond t (Value c) (place_in (c + 1) words s) ≡ Value n
-        → (place_in (c + 1) words s ≡ Value n → capitals s ≡ get_or words (n - (c + 1)) []) → capitals s ≡ get_or (word ∷ words) (n - c) []
+    by : (t : Bool) → spells s word ≡ t → cond t (Some c) (place_in (c + 1) words s) ≡ Some n
+        → (place_in (c + 1) words s ≡ Some n → capitals s ≡ get_or words (n - (c + 1)) []) → capitals s ≡ get_or (word ∷ words) (n - c) []
     by true p q later =
         let first : n - c ≡ 0 = (let v : c ≡ n = cc in omega arith) in
         (spells_exactly s word).0 p ∙ ap (λ (k : ℕ). get_or (word ∷ words) k []) (sym first)
@@ -72,19 +71,19 @@ place_spelled c (word ∷ words) s n e = by (spells s word) refl e (place_spelle
         let one_more : n - c ≡ suc (n - (c + 1)) = omega arith in
         later q ∙ ap (λ (k : ℕ). get_or (word ∷ words) k []) (sym one_more)
 
-pub word_spelled : (names : List (List ℕ)) (s : List ℕ) (c : ℕ) → word_of names s ≡ Value c → capitals s ≡ qualifier_word names c
+pub word_spelled : (names : List (List ℕ)) (s : List ℕ) (c : ℕ) → word_of names s ≡ Some c → capitals s ≡ qualifier_word names c
 unfolding word_of qualifier_word
 word_spelled names s c e = let first : c - 0 ≡ c = omega arith in place_spelled 0 (qualifier_words names) s c e ∙ ap (qualifier_word names) first
 
 pub word_exactly : (s : List ℕ) (c : ℕ) →
-    (word_of six_names s ≡ Value c → capitals s ≡ qualifier_word six_names c) × (c < 7 → capitals s ≡ qualifier_word six_names c → word_of six_names s ≡ Value c)
+    (word_of six_names s ≡ Some c → capitals s ≡ qualifier_word six_names c) × (c < 7 → capitals s ≡ qualifier_word six_names c → word_of six_names s ≡ Some c)
 word_exactly s c = (word_spelled six_names s c, λ h e. sym (word_capitals six_names s) ∙ ap (word_of six_names) e ∙ word_of_word c h)
 
-pub qualifier_of_word : (c : ℕ) → c < 7 → qualifier_of six_names (qualifier_word six_names c) ≡ Value c
+pub qualifier_of_word : (c : ℕ) → c < 7 → qualifier_of six_names (qualifier_word six_names c) ≡ Some c
 unfolding qualifier_of
 qualifier_of_word c h = simp (word_of_word c h)
 
 -- No word begins with `g`, so what does is a named variable.
-pub qualifier_of_variable : (k : ℕ) → k ≤ 63 → qualifier_of six_names (103 ∷ decimal k) ≡ Value (k + 7)
+pub qualifier_of_variable : (k : ℕ) → k ≤ 63 → qualifier_of six_names (103 ∷ decimal k) ≡ Some (k + 7)
 unfolding capital spells qualifier_of word_of
 qualifier_of_variable k h = ap (variable_code 7) (number_of_decimal 63 k h)

@@ -1,12 +1,10 @@
 -- The values that stand in a form's fields, by their kinds: one letter for each field.
 -- Document 01, "Lines and the table"; document 02, a) and d).
-use Rattle.std.specs.Prelude.{ℕ, ◌+◌, Bool, true, false, cond, List, [], ◌∷◌, eqb, set, replicate}
+use Rattle.std.specs.Prelude.{ℕ, ◌+◌, Bool, cond, List, [], ◌∷◌, eqb, set, replicate, Option, Some, None}
+use Rattle.std.specs.Bool.{then_some}
 use Rattle.model.specs.Number.{number_of}
 use Rattle.model.specs.Word.{word_of, qualifier_of, scheme_of, operation_of}
-use Rattle.model.specs.declared.Field.{Field}
-use Rattle.model.specs.declared.Field.TheVariants.{Value, NoValue}
 use Rattle.numbers.specs.NumberTo.{with_end, next_place, bytes_to}
-use Rattle.numbers.specs.declared.Parsed.{Parsed}
 use Rattle.tokens.specs.declared.values.Values.{Values}
 
 -- The letters of the two kinds that have no code.
@@ -21,20 +19,20 @@ abbrev pub is_floor : ℕ → Bool
 is_floor kind = eqb kind 102
 
 -- A word in a field: `q` is a qualifier, `f` a floor, which is a qualifier's word, `s` a scheme, and any other letter, as `o`, an operation.
-unfoldable pub word_in : List (List ℕ) → ℕ → List ℕ → Field
+unfoldable pub word_in : List (List ℕ) → ℕ → List ℕ → Option ℕ
 word_in names kind s =
     cond (eqb kind 113) (qualifier_of names s)
     (cond (is_floor kind) (word_of names s)
     (cond (eqb kind 115) (scheme_of names s) (operation_of s)))
 
 -- What stands in a field: `n` is a number, `l` a literal, and of any other kind it is a word.
-unfoldable pub value_of : List (List ℕ) → ℕ → List ℕ → Field
+unfoldable pub value_of : List (List ℕ) → ℕ → List ℕ → Option ℕ
 value_of names kind s =
     cond (is_number kind) (number_of 65535 s)
     (cond (is_literal kind) (number_of 4294967295 s) (word_in names kind s))
 
 -- That of the field that starts at a place, with the place where it ends.
-unfoldable pub value_at : List (List ℕ) → ℕ → List ℕ → ℕ → Parsed
+unfoldable pub value_at : List (List ℕ) → ℕ → List ℕ → ℕ → Option (ℕ × ℕ)
 value_at names kind s from = with_end (value_of names kind (bytes_to 44 s from)) (next_place 44 s from)
 
 -- The most fields that a form has.
@@ -43,33 +41,28 @@ most_fields = 4
 
 -- Before any field was read.
 abbrev pub no_values : Values
-no_values = record { all = false; number = replicate most_fields 0; code = replicate most_fields 0; literal = 0 }
+no_values = record { number = replicate most_fields 0; code = replicate most_fields 0; literal = 0 }
 
 -- Field k has the value n.
 abbrev pub put : ℕ → ℕ → ℕ → Values → Values
 put kind k n v =
     record {
-      all = v.all;
       number = cond (is_number kind) (set v.number k n) v.number;
       code = cond (is_number kind) v.code (cond (is_literal kind) v.code (set v.code k n));
       literal = cond (is_number kind) v.literal (cond (is_literal kind) n v.literal);
     }
 
--- Whether all values are there.
-abbrev pub told : Bool → Values → Values
-told all v = record { all = all; number = v.number; code = v.code; literal = v.literal }
+-- A field's value goes into the rest; without one there are no values.
+unfoldable pub onward : Option ℕ → (ℕ → Option Values) → Option Values
+onward (Some n) rest = rest n
+onward None rest = None
 
--- A field's value goes into the rest; without one the values stay as they are.
-unfoldable pub onward : Field → Values → (ℕ → Values) → Values
-onward (Value n) v rest = rest n
-onward NoValue v rest = v
+-- The values with those of the fields from k on. They are there where each field has one of its kind, and there are as many fields as kinds; or one fewer, where that is a floor.
+abbrev pub values_from : List (List ℕ) → Values → ℕ → List ℕ → List (List ℕ) → Option Values
+values_from names v k [] [] = Some v
+values_from names v k [] (f ∷ fs) = None
+values_from names v k (kind ∷ kinds) [] = then_some (is_floor kind) v
+values_from names v k (kind ∷ kinds) (f ∷ fs) = onward (value_of names kind f) λ n. values_from names (put kind k n v) (k + 1) kinds fs
 
--- The values with those of the fields from k on. They are all there where each field has one of its kind, and there are as many fields as kinds; or one fewer, where that is a floor.
-abbrev pub values_from : List (List ℕ) → Values → ℕ → List ℕ → List (List ℕ) → Values
-values_from names v k [] [] = told true v
-values_from names v k [] (f ∷ fs) = v
-values_from names v k (kind ∷ kinds) [] = told (is_floor kind) v
-values_from names v k (kind ∷ kinds) (f ∷ fs) = onward (value_of names kind f) v λ n. values_from names (put kind k n v) (k + 1) kinds fs
-
-unfoldable pub values_of : List (List ℕ) → List ℕ → List (List ℕ) → Values
+unfoldable pub values_of : List (List ℕ) → List ℕ → List (List ℕ) → Option Values
 values_of names kinds fs = values_from names no_values 0 kinds fs

@@ -6,8 +6,7 @@ ghost use Rattle.tokens.specs.Form.{most_fields, no_values, word_in, value_at, v
 ghost use Rattle.model.specs.Line.{fields};
 
 use crate::{fields, words};
-use model::Field;
-use numbers::{LARGEST, Parsed, with_end};
+use numbers::LARGEST;
 
 // The most fields that a form has.
 const FIELDS: usize = 4;
@@ -15,10 +14,9 @@ const FIELDS: usize = 4;
 // The largest number of a row or a parameter.
 pub const NUMBER: u32 = 65535;
 
-// Whether the fields are those of the form, and their values: numbers and codes by the field, and the one literal that a form may have.
+// The values of a form's fields: numbers and codes by the field, and the one literal that a form may have.
 #[derive(Clone, Copy)]
 pub struct Values {
-    pub all: bool,
     pub number: [u16; FIELDS],
     pub code: [u8; FIELDS],
     pub literal: u32,
@@ -29,7 +27,6 @@ fn no_values() -> Values
     ensures { result ≡ no_values }
 {
     Values {
-        all: false,
         number: [0; FIELDS],
         code: [0; FIELDS],
         literal: 0,
@@ -37,7 +34,7 @@ fn no_values() -> Values
 }
 
 // What stands in a field that is no number, by the letter of its kind; `o` is an operation.
-fn word(names: &[u8], kind: u8, s: &[u8]) -> Field
+fn word(names: &[u8], kind: u8, s: &[u8]) -> Option<u32>
     requires { Few names.now }
     ensures { result ≡ word_in (fields names.now) kind s.now }
 {
@@ -50,7 +47,7 @@ fn word(names: &[u8], kind: u8, s: &[u8]) -> Field
 }
 
 // What stands in the field that starts at a place, and where the field ends.
-fn value(names: &[u8], kind: u8, s: &[u8], from: usize) -> Parsed
+fn value(names: &[u8], kind: u8, s: &[u8], from: usize) -> Option<(u32, usize)>
     requires { Few names.now × (from ≤ length s.now) }
     ensures { result ≡ value_at (fields names.now) kind s.now from }
 {
@@ -59,45 +56,30 @@ fn value(names: &[u8], kind: u8, s: &[u8], from: usize) -> Parsed
         b'l' => fields::number(s, from, LARGEST),
         _ => {
             let end = fields::end(s, from);
-            with_end(word(names, kind, &s[from..end]), end)
+            word(names, kind, &s[from..end]).map(|code| (code, end))
         }
     }
 }
 
 // The values of a line's fields from a place on, where there is one letter for the kind of each.
-pub fn read(names: &[u8], kinds: &[u8], s: &[u8], start: usize) -> Values
+pub fn read(names: &[u8], kinds: &[u8], s: &[u8], start: usize) -> Option<Values>
     requires { Few names.now × (length kinds.now ≤ most_fields) }
     ensures { result ≡ values_of (fields names.now) kinds.now (fields_from s.now start) }
 {
     let mut v = no_values();
-    let mut k: usize = 0;
     let mut from = start;
-    while k < kinds.len() {
-        let kind = kinds[k];
+    for (k, &kind) in kinds.iter().enumerate() {
         if s.len() < from {
             // Only a floor may be left out.
-            v.all = kind == b'f';
-            return v;
+            return (kind == b'f').then_some(v);
         }
-        let Parsed::UpTo(n, end) = value(names, kind, s, from) else {
-            return v;
-        };
+        let (n, end) = value(names, kind, s, from)?;
         from = end + 1;
         match kind {
-            b'n' => {
-                v.number[k] = n as u16;
-                k += 1;
-            }
-            b'l' => {
-                v.literal = n;
-                k += 1;
-            }
-            _ => {
-                v.code[k] = n as u8;
-                k += 1;
-            }
+            b'n' => v.number[k] = n as u16,
+            b'l' => v.literal = n,
+            _ => v.code[k] = n as u8,
         }
     }
-    v.all = s.len() < from;
-    v
+    (s.len() < from).then_some(v)
 }

@@ -4,105 +4,60 @@ ghost use Rattle.model.specs.Lists.{same};
 ghost use Rattle.model.specs.Line.{fields};
 ghost use Rattle.tokens.specs.Names.{Few};
 ghost use Rattle.tokens.specs.Look.{look_up};
-ghost use Rattle.model.specs.Word.{capital, spells, place_in, word_of, variable_of, qualifier_of, scheme_of, operation_of};
+ghost use Rattle.model.specs.Word.{spells, place_in, word_of, variable_of, qualifier_of, scheme_of, operation_of};
 
 use crate::fields;
-use model::Field;
 use numbers::number_in;
 
 // Whether both have the same bytes.
 pub fn same(s: &[u8], t: &[u8]) -> bool
     ensures { result ≡ same s.now t.now }
 {
-    if s.len() != t.len() {
-        return false;
-    }
-    let mut i = 0;
-    while i < s.len() {
-        if s[i] != t[i] {
-            return false;
-        }
-        i += 1;
-    }
-    true
-}
-
-// A small letter's capital; every other byte as it is.
-fn capital(b: u8) -> u8
-    ensures { result ≡ capital b }
-{
-    match b {
-        b'a'..=b'z' => b - 32,
-        _ => b,
-    }
+    s == t
 }
 
 // Whether the bytes spell the word, which is in capitals, in either case.
 pub fn spells(s: &[u8], word: &[u8]) -> bool
     ensures { result ≡ spells s.now word.now }
 {
-    if s.len() != word.len() {
-        return false;
-    }
-    let mut i = 0;
-    while i < s.len() {
-        if capital(s[i]) != word[i] {
-            return false;
-        }
-        i += 1;
-    }
-    true
+    s.len() == word.len()
+        && s.iter()
+            .zip(word)
+            .all(|(a, b)| a.to_ascii_uppercase() == *b)
 }
 
-// A place among words: where one was found, or else the place after the last, which is how many there are.
-#[derive(Clone, Copy)]
-pub struct Place {
-    pub found: bool,
-    pub at: usize,
-}
-
-// The place of the bytes among words that are parted by commas.
-fn look_up(s: &[u8], words: &[u8]) -> Place
+// The place of the bytes among words that are parted by commas, or else how many words there are.
+fn look_up(s: &[u8], words: &[u8]) -> Result<usize, usize>
     ensures { result ≡ look_up (fields words.now) s.now }
 {
-    let mut at: usize = 0;
-    let mut from: usize = 0;
-    while from <= words.len() {
-        let to = fields::end(words, from);
-        if spells(s, &words[from..to]) {
-            return Place { found: true, at };
-        }
-        at += 1;
-        from = to + 1;
-    }
-    Place { found: false, at }
+    words
+        .split(|&b| b == b',')
+        .position(|word| spells(s, word))
+        .ok_or_else(|| fields::count(words))
 }
 
 // The same as a code, counted from `first`.
-fn place_in(s: &[u8], words: &[u8], first: u32) -> Field
+fn place_in(s: &[u8], words: &[u8], first: u32) -> Option<u32>
     requires { first + length (fields words.now) ≤ 4294967295 }
     ensures { result ≡ place_in first (fields words.now) s.now }
 {
-    let place = look_up(s, words);
-    if place.found {
-        return Field::Value(first + place.at as u32);
-    }
-    Field::NoValue
+    let at = look_up(s, words).ok()?;
+    Some(first + at as u32)
 }
 
 // A qualifier's word: 0 for PLAIN, then the schemes' names.
-pub(crate) fn word_in(names: &[u8], s: &[u8]) -> Field
+pub(crate) fn word_in(names: &[u8], s: &[u8]) -> Option<u32>
     requires { Few names.now }
     ensures { result ≡ word_of (fields names.now) s.now }
 {
     if spells(s, b"PLAIN") {
-        return Field::Value(0);
+        return Some(0);
     }
     place_in(s, names, 1)
 }
 
 // A scheme's name: 1 for the first.
-pub(crate) fn scheme_in(names: &[u8], s: &[u8]) -> Field
+pub(crate) fn scheme_in(names: &[u8], s: &[u8]) -> Option<u32>
     requires { Few names.now }
     ensures { result ≡ scheme_of (fields names.now) s.now }
 {
@@ -110,40 +65,32 @@ pub(crate) fn scheme_in(names: &[u8], s: &[u8]) -> Field
 }
 
 // One of the five operations: 0 to 4.
-pub(crate) fn operation_in(s: &[u8]) -> Field
+pub(crate) fn operation_in(s: &[u8]) -> Option<u32>
     ensures { result ≡ operation_of s.now }
 {
     place_in(s, b"ADD,MUL,EQ,LT,GT", 0)
 }
 
 // A named variable, g0 to g63: its number after the codes of the words.
-fn variable_in(words: usize, s: &[u8]) -> Field
+fn variable_in(words: usize, s: &[u8]) -> Option<u32>
     requires { words ≤ 49 }
     ensures { result ≡ variable_of words s.now }
 {
-    if s.len() == 0 {
-        return Field::NoValue;
-    }
-    if s[0] != b'g' {
-        return Field::NoValue;
-    }
-    match number_in(&s[1..], 63) {
-        Field::Value(k) => Field::Value(k + words as u32),
-        Field::NoValue => Field::NoValue,
-    }
+    let digits = s.strip_prefix(b"g")?;
+    let k = number_in(digits, 63)?;
+    Some(k + words as u32)
 }
 
 // A qualifier: one of the words, else a named variable.
-pub(crate) fn qualifier_in(names: &[u8], s: &[u8]) -> Field
+pub(crate) fn qualifier_in(names: &[u8], s: &[u8]) -> Option<u32>
     requires { Few names.now }
     ensures { result ≡ qualifier_of (fields names.now) s.now }
 {
     if spells(s, b"PLAIN") {
-        return Field::Value(0);
+        return Some(0);
     }
-    let place = look_up(s, names);
-    if place.found {
-        return Field::Value(1 + place.at as u32);
+    match look_up(s, names) {
+        Ok(at) => Some(1 + at as u32),
+        Err(count) => variable_in(count + 1, s),
     }
-    variable_in(place.at + 1, s)
 }

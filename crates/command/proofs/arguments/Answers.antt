@@ -1,25 +1,29 @@
 -- Each turn reads one word more; the array has a place for each.
-use Prim.Native.Nat.{◌<◌}
-use native.Mathlib.Omega.{arith}
-use mathlib.Core.Path.{refl}
-use borrow.Author.Rules.{rules}
+use Rattle.std.proofs.Common.{◌≡◌, refl, rules, arith}
 use Rattle.command.proofs.Numbers.{count_first, count_fits, count_full, next_fits, no_number, last_number, last_fits, next_number}
 use Rattle.command.proofs.arguments.Goals as goal
 
-pub loop-count-init : goal.loop-count-init
-loop-count-init c = count_first _ _ refl
+pub loop-k-init : goal.loop-k-init
+loop-k-init c = count_first _ _ refl
 
-pub returns-in-Failed : goal.returns-in-Failed
-returns-in-Failed c = let more : c.loop-count.count < 66 = omega arith in (search (no_number, rules), omega arith)
+pub returns-in_err-number : goal.returns-in_err-number
+returns-in_err-number c = rw c.from_residual.ensures (no_number _ _ _ _ _ c.loop-k.invariant (omega arith) c.number_to.ensures c.in_err-number.was)
 
 pub returns-then-to-s : goal.returns-then-to-s
-returns-then-to-s c = let more : c.loop-count.count < 66 = omega arith in (search (last_number, rules), search (last_fits, rules))
+returns-then-to-s c = (
+  last_number _ _ _ _ _ c.loop-k.invariant (omega arith) c.number_to.ensures _ _ c.in_ok-number.was c.if-to-s.true,
+  omega arith,
+  last_fits _ _ _ _ _ c.loop-k.invariant (omega arith) c.number_to.ensures _ _ c.in_ok-number.was,
+)
 
 pub overflow_add-from : goal.overflow_add-from
-overflow_add-from c = let more : c.loop-count.count < 66 = omega arith in search (next_fits, rules)
+overflow_add-from c = next_fits _ _ _ _ _ c.loop-k.invariant (omega arith) c.number_to.ensures _ _ c.in_ok-number.was (search rules)
 
-pub loop-count-preserved : goal.loop-count-preserved
-loop-count-preserved c = let more : c.loop-count.count < 66 = omega arith in search (next_number, rules)
+pub loop-k-preserved : goal.loop-k-preserved
+loop-k-preserved c = next_number _ _ _ _ _ c.loop-k.invariant (omega arith) c.number_to.ensures _ _ c.in_ok-number.was c.if-to-s.false
 
 pub returns : goal.returns
-returns c = (search (count_full, rules), search (count_fits, rules))
+returns c =
+    let all : c.loop-k.k ≡ 66 = omega arith in
+    let full = rw all at c.loop-k.invariant in
+    (count_full _ _ _ _ full (omega arith), omega arith, count_fits _ _ _ _ full)

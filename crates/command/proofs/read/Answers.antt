@@ -1,63 +1,79 @@
 -- The commands are tried in turn.
-use Prim.Native.Nat.{ℕ, ◌≤◌}
-use native.Mathlib.Omega.{arith}
-use mathlib.Core.Bool.{Bool, false}
-use mathlib.Core.List.{List}
-use mathlib.Core.Path.{◌≡◌, refl}
-use lib.ListN.{length}
-use Rattle.model.specs.Lists.{same, bytes}
-use Rattle.conversation.specs.Script.{begins, command_of}
-use Rattle.conversation.specs.Script as Script
+use Rattle.std.proofs.Common.{List, ℕ, true, false, refl, rules, arith, sym, ap, ◌∙◌}
+use Rattle.model.specs.Lists.{bytes}
+use Rattle.conversation.specs.Script.{argument, before_blank, after_blank, redeclare_of}
 use Rattle.command.specs.Said.{said}
-use borrow.Author.Rules.{rules}
-use Rattle.command.proofs.Reading.{begins_long, later_command, test_passed, test_failed, readings}
+use Rattle.command.proofs.Reading.{begins_by, begins_stripped, is_add, is_redeclare, is_take_back, is_infer, is_schemes, is_run, is_nothing}
 use Rattle.command.proofs.read.Goals as goal
 
--- A line that is none of the first four commands.
-later : (s : List ℕ) (a b c d : Bool) → a ≡ begins (bytes "add ") s → a ≡ false → b ≡ begins (bytes "redeclare ") s → b ≡ false → c ≡ same s (bytes "take-back") → c ≡ false →
-    d ≡ same s (bytes "infer") → d ≡ false → (r : Script.Command) → r ≡ later_command s → r ≡ command_of s
-unfolding command_of
-later s a b c d ea fa eb fb ec fc ed fd r is = test_failed _ _ _ _ _ ea fa (test_failed _ _ _ _ _ eb fb (test_failed _ _ _ _ _ ec fc (test_failed _ _ _ _ _ ed fd is)))
-
-pub returns-then-begins : goal.returns-then-begins
-unfolding said command_of
-returns-then-begins c = (search (readings, rules) depth 12, begins_long (bytes "add ") c.args.s.now _ c.begins.ensures c.if-begins.true)
-
-pub slice_bounds-redeclare_in-count : goal.slice_bounds-redeclare_in-count
-slice_bounds-redeclare_in-count c = let h : 10 ≤ length c.args.s.now = begins_long (bytes "redeclare ") c.args.s.now _ c.begins-2.ensures c.if-begins-2.true in omega arith
-
-pub slice_bounds-redeclare_in-start : goal.slice_bounds-redeclare_in-start
-slice_bounds-redeclare_in-start c = let h : 10 ≤ length c.args.s.now = begins_long (bytes "redeclare ") c.args.s.now _ c.begins-2.ensures c.if-begins-2.true in omega arith
-
-pub returns-then-begins-2 : goal.returns-then-begins-2
-unfolding said command_of
-returns-then-begins-2 c = (search (readings, rules) depth 12, omega (arith, c.redeclare_in.ensures.1))
-
-pub returns-then-same : goal.returns-then-same
-unfolding said command_of
-returns-then-same c = (search (readings, rules) depth 12, omega arith)
-
-pub returns-then-same-2 : goal.returns-then-same-2
-unfolding said command_of
-returns-then-same-2 c = (search (readings, rules) depth 12, omega arith)
-
-pub returns-then-begins-3 : goal.returns-then-begins-3
+pub returns-then-starts_with : goal.returns-then-starts_with
 unfolding said
-returns-then-begins-3 c = (
-  later c.args.s.now _ _ _ _ c.begins.ensures c.if-begins.false c.begins-2.ensures c.if-begins-2.false c.same.ensures c.if-same.false c.same-2.ensures c.if-same-2.false _ (test_passed _ _ _ _ _ c.begins-3.ensures c.if-begins-3.true refl),
-  begins_long (bytes "schemes ") c.args.s.now _ c.begins-3.ensures c.if-begins-3.true,
+returns-then-starts_with c = (is_add c.args.s.now _ (begins_by (bytes "add ") c.args.s.now _ true c.starts_with.ensures.value c.if-starts_with.true) refl, c.starts_with.ensures.bound (search rules))
+
+pub returns-in-Some : goal.returns-in-Some
+returns-in-Some c = (
+  is_redeclare c.args.s.now _
+      (begins_by (bytes "add ") c.args.s.now _ false c.starts_with.ensures.value c.if-starts_with.false)
+      (begins_stripped (bytes "redeclare ") c.args.s.now true c.in-Some.ensures.cases.0)
+      (c.redeclare_in.ensures.0 c.args.s.now ∙ ap (λ (rest : List ℕ). redeclare_of (argument (before_blank rest)) (argument (after_blank rest))) c.in-Some.ensures.cases.1),
+  omega (arith, c.redeclare_in.ensures.1),
 )
 
-pub returns-then-begins-4 : goal.returns-then-begins-4
+pub returns-then-same : goal.returns-then-same
 unfolding said
-returns-then-begins-4 c = (
-  later c.args.s.now _ _ _ _ c.begins.ensures c.if-begins.false c.begins-2.ensures c.if-begins-2.false c.same.ensures c.if-same.false c.same-2.ensures c.if-same-2.false _ (test_failed _ _ _ _ _ c.begins-3.ensures c.if-begins-3.false (test_passed _ _ _ _ _ c.begins-4.ensures c.if-begins-4.true refl)),
-  begins_long (bytes "run ") c.args.s.now _ c.begins-4.ensures c.if-begins-4.true,
+returns-then-same c = (
+  is_take_back c.args.s.now _
+      (begins_by (bytes "add ") c.args.s.now _ false c.starts_with.ensures.value c.if-starts_with.false)
+      (begins_stripped (bytes "redeclare ") c.args.s.now false c.in_default.ensures.cases)
+      (sym c.same.ensures ∙ c.if-same.true) refl,
+  omega arith,
+)
+
+pub returns-then-same-2 : goal.returns-then-same-2
+unfolding said
+returns-then-same-2 c = (
+  is_infer c.args.s.now _
+      (begins_by (bytes "add ") c.args.s.now _ false c.starts_with.ensures.value c.if-starts_with.false)
+      (begins_stripped (bytes "redeclare ") c.args.s.now false c.in_default.ensures.cases)
+      (sym c.same.ensures ∙ c.if-same.false)
+      (sym c.same-2.ensures ∙ c.if-same-2.true) refl,
+  omega arith,
+)
+
+pub returns-then-starts_with-2 : goal.returns-then-starts_with-2
+unfolding said
+returns-then-starts_with-2 c = (
+  is_schemes c.args.s.now _
+      (begins_by (bytes "add ") c.args.s.now _ false c.starts_with.ensures.value c.if-starts_with.false)
+      (begins_stripped (bytes "redeclare ") c.args.s.now false c.in_default.ensures.cases)
+      (sym c.same.ensures ∙ c.if-same.false)
+      (sym c.same-2.ensures ∙ c.if-same-2.false)
+      (begins_by (bytes "schemes ") c.args.s.now _ true c.starts_with-2.ensures.value c.if-starts_with-2.true) refl,
+  c.starts_with-2.ensures.bound (search rules),
+)
+
+pub returns-then-starts_with-3 : goal.returns-then-starts_with-3
+unfolding said
+returns-then-starts_with-3 c = (
+  is_run c.args.s.now _
+      (begins_by (bytes "add ") c.args.s.now _ false c.starts_with.ensures.value c.if-starts_with.false)
+      (begins_stripped (bytes "redeclare ") c.args.s.now false c.in_default.ensures.cases)
+      (sym c.same.ensures ∙ c.if-same.false)
+      (sym c.same-2.ensures ∙ c.if-same-2.false)
+      (begins_by (bytes "schemes ") c.args.s.now _ false c.starts_with-2.ensures.value c.if-starts_with-2.false)
+      (begins_by (bytes "run ") c.args.s.now _ true c.starts_with-3.ensures.value c.if-starts_with-3.true) refl,
+  c.starts_with-3.ensures.bound (search rules),
 )
 
 pub returns : goal.returns
 unfolding said
 returns c = (
-  later c.args.s.now _ _ _ _ c.begins.ensures c.if-begins.false c.begins-2.ensures c.if-begins-2.false c.same.ensures c.if-same.false c.same-2.ensures c.if-same-2.false _ (test_failed _ _ _ _ _ c.begins-3.ensures c.if-begins-3.false (test_failed _ _ _ _ _ c.begins-4.ensures c.if-begins-4.false refl)),
+  is_nothing c.args.s.now _
+      (begins_by (bytes "add ") c.args.s.now _ false c.starts_with.ensures.value c.if-starts_with.false)
+      (begins_stripped (bytes "redeclare ") c.args.s.now false c.in_default.ensures.cases)
+      (sym c.same.ensures ∙ c.if-same.false)
+      (sym c.same-2.ensures ∙ c.if-same-2.false)
+      (begins_by (bytes "schemes ") c.args.s.now _ false c.starts_with-2.ensures.value c.if-starts_with-2.false)
+      (begins_by (bytes "run ") c.args.s.now _ false c.starts_with-3.ensures.value c.if-starts_with-3.false) refl,
   omega arith,
 )

@@ -17,10 +17,10 @@ pub overflow_cast-i : goal.overflow_cast-i
 overflow_cast-i c = search (too_long, beginnings, rules)
 
 pub overflow_add-end : goal.overflow_add-end
-overflow_add-end c = let within : c.in-UpTo.end ≤ length c.args.s.now = number_within 44 65535 _ _ _ c.number.ensures _ _ c.in-UpTo.is (omega arith) in omega arith
+overflow_add-end c = let within : c.in-Some.end ≤ length c.args.s.now = number_within 44 65535 _ _ _ c.number.ensures _ _ c.in-Some.is (omega arith) in omega arith
 
 pub tagged_line-requires : goal.tagged_line-requires
 tagged_line-requires c = search (too_long, beginnings, rules)
 
-pub returns-in-Failed : goal.returns-in-Failed
-returns-in-Failed c = search (too_long, beginnings, rules)
+pub returns-in_default : goal.returns-in_default
+returns-in_default c = search (too_long, beginnings, rules)

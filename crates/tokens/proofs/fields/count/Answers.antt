@@ -1,16 +1,12 @@
--- The fields that were begun and those of the rest are, at each turn, all the fields, with one counted twice.
-use borrow.Author.Rules.{rules}
-use Rattle.tokens.proofs.Parting.{counts}
+-- The parts at the commas are the fields.
+use Rattle.std.proofs.Common.{nat_eq, length, rules, ap, ◌∙◌}
+use Rattle.std.proofs.lemmas.Iterator.Consumers.{count_from_yields_List}
+use Rattle.std.proofs.lemmas.Iterator.Splits.{YieldsList-from_slice_split}
+use Rattle.tokens.proofs.Parting.{fields_split}
 use Rattle.tokens.proofs.fields.count.Goals as goal
 
-pub loop-i-init : goal.loop-i-init
-loop-i-init c = search (counts, rules)
-
-pub loop-i-preserved-then-s-i-eq44 : goal.loop-i-preserved-then-s-i-eq44
-loop-i-preserved-then-s-i-eq44 c = search (counts, rules)
-
-pub loop-i-preserved : goal.loop-i-preserved
-loop-i-preserved c = search (counts, rules)
-
 pub returns : goal.returns
-returns c = search (counts, rules)
+returns c =
+    count_from_yields_List _ _ c.count.ensures.ran
+    (YieldsList-from_slice_split _ (λ b. nat_eq b 44) c.args.s.now c.split.ensures.rest c.split.ensures.done c.split.ensures.closure (λ x b q k. search rules))
+    ∙ ap length (fields_split c.args.s.now)

@@ -1,19 +1,17 @@
--- Whether the capitals of the bytes are the word is, at each turn, whether the rests are.
-use borrow.Author.Rules.{rules}
-use Rattle.tokens.proofs.Spelling.{spelling, spells_differ, spells_next}
+-- Bytes of the word's length are compared with it pair by pair.
+use Rattle.std.proofs.Common.{ℕ, nat_eq, rules, tests, ne_eqb, ◌∙◌}
+use Rattle.std.specs.Char.{to_ascii_uppercase}
+use Rattle.std.proofs.lemmas.Iterator.{YieldsList-from_slice, YieldsList-from_zip}
+use Rattle.std.proofs.lemmas.Iterator.Search.{all_from_yields_List}
+use Rattle.tokens.proofs.Spelling.{spells_length, spells_pairs}
 use Rattle.tokens.proofs.words.spells.Goals as goal
 
 pub returns-then-s-word : goal.returns-then-s-word
-returns-then-s-word c = search (spelling, rules)
+returns-then-s-word c =
+    spells_pairs c.args.s.now c.args.word.now c.if-s-word.true c.all.result
+    (all_from_yields_List (λ (p : ℕ × ℕ). nat_eq (to_ascii_uppercase p.0) p.1) c.all.new.self _ c.all.result c.all.ensures.ran
+    (YieldsList-from_zip (YieldsList-from_slice c.args.s.now cc) (YieldsList-from_slice c.args.word.now cc))
+    (λ x b q k. search (rules, tests)))
 
-pub loop-i-init : goal.loop-i-init
-loop-i-init c = search (spelling, rules)
-
-pub returns-then-capital-word : goal.returns-then-capital-word
-returns-then-capital-word c = spells_differ _ _ _ c.loop-i.invariant _ c.loop-i-test.true c.capital.ensures c.if-capital-word.true
-
-pub loop-i-preserved : goal.loop-i-preserved
-loop-i-preserved c = search (spells_next, c.loop-i.invariant, c.loop-i-test.true, c.capital.ensures, c.if-capital-word.false)
-
-pub returns : goal.returns
-returns c = search (spelling, rules)
+pub returns-else-s-word : goal.returns-else-s-word
+returns-else-s-word c = ne_eqb _ _ c.if-s-word.false ∙ spells_length c.args.s.now c.args.word.now c.if-s-word.false
