@@ -3,27 +3,21 @@ use Prim.Native.Nat.{ℕ, zero, suc, ◌+◌, ◌-◌, ◌*◌, ◌/◌, ◌%◌
 use native.Mathlib.Omega.{arith}
 use mathlib.Core.Bool.{Bool, true, false, ◌&&◌, and-false}
 use mathlib.Core.List.{List}
-use mathlib.Core.Path.{◌≡◌, refl, sym, ap, subst, ◌∙◌}
+use mathlib.Core.Path.{◌≡◌, refl, sym, ap, ◌∙◌}
 use lib.Dec.{ltb}
 use lib.ListN.{get_or, replicate, get_or-replicate}
 use borrow.Author.Tests.{lt-ltb, le-ltb}
+use Rattle.std.specs.Prelude.{Some, None, Ok, Err}
 use Rattle.scheme.specs.Lists.{implies, every, first}
 use Rattle.scheme.specs.Schemes.{SchemeTable, words, supports, below, greatest, exists, top_of, meet_of, highest_of, has_meets, has_highest}
 use Rattle.scheme.proofs.Every.{and_both, every_of, every_fails, every_same, first-same}
 use Rattle.scheme.proofs.Schemes.{wider, below_wider}
 use Rattle.model.specs.Machine.{first_failing}
 use Rattle.derive.specs.declared.Bits.{Bits}
-use Rattle.derive.specs.declared.Derived.{Derived}
-use Rattle.derive.specs.Orders.{order_at, Member, supports_at, wider_at, above_all, best, both_below, Ordered, IsBest, MeetsFound, HighestFound}
+use Rattle.derive.specs.declared.Missing.TheVariants.{Meet, Highest}
+use Rattle.derive.specs.Orders.{order_at, Member, supports_at, wider_at, above_all, best, best_of, both_below, Ordered, IsBest, MeetsFound, HighestFound}
 use Rattle.derive.specs.Derives.{Holds, Derives}
-use Rattle.derive.proofs.Searching.{best_most}
-
--- What was found, by an answer that is known.
-pub meets_answer : {order : List Bool} {n : ℕ} {meets : List ℕ} {r b : Bool} → MeetsFound order n 81 meets r → r ≡ b → MeetsFound order n 81 meets b
-meets_answer {order} {n} {meets} found e = subst (λ (r : Bool). MeetsFound order n 81 meets r) e found
-
-pub highest_answer : {order : List Bool} {bits : List Bits} {n : ℕ} {highest : List ℕ} {r b : Bool} → HighestFound order bits n 5 highest r → r ≡ b → HighestFound order bits n 5 highest b
-highest_answer {order} {bits} {n} {highest} found e = subst (λ (r : Bool). HighestFound order bits n 5 highest r) e found
+use Rattle.derive.proofs.Filling.{best_some, best_none}
 
 module _ (T : SchemeTable) (n : ℕ) (bits : List Bits) (order : List Bool) (few : n ≤ 9) (holds : Holds T n bits) (ordered : Ordered bits 81 order) where
   supports_same : (c o : ℕ) → c < n → supports_at bits c o ≡ supports T c o
@@ -80,81 +74,66 @@ module _ (T : SchemeTable) (n : ℕ) (bits : List Bits) (order : List Bool) (few
   missing_highest o h gone = every_fails 5 (λ o. exists T (highest_of T o)) o h gone
 
   -- The four ends of the function.
-  module _ (members : List Bool) (all : members ≡ replicate 9 true) (top : ℕ) (is : top ≡ best order n members) where
-    pub no_top : (r : Derived) → top ≡ n → r.number ≡ 26 → Derives T r
+  module _ (members : List Bool) (all : members ≡ replicate 9 true) where
+    pub no_top : None ≡ best_of order n members → Derives T (Err Meet)
     unfolding first_failing has_meets
-    no_top r none e =
-        let missing : exists T (top_of T) ≡ false = missing_code _ (sym (is_top members top all is) ∙ none) in
-        record {
-          refusal = rw missing e;
-          meets = λ z. absurd (omega arith);
-          highest = λ z. absurd (omega arith);
-          top = λ z. absurd (omega arith);
-        }
+    no_top none =
+        let missing : exists T (top_of T) ≡ false = missing_code _ (sym (is_top members n all (best_none order n members none))) in
+        record { refusal = rw missing refl; derived = tt }
 
-    pub no_meets : (r : Derived) (meets : List ℕ) → MeetsFound order n 81 meets false → r.number ≡ 26 → Derives T r
+    pub no_meets : MeetsFound order n 81 None → Derives T (Err Meet)
     unfolding first_failing
-    no_meets r meets found e =
-        let at = found.none refl in
+    no_meets at =
         let a : ℕ = at.0 / 9 in
         let b : ℕ = at.0 % 9 in
         let gone : exists T (meet_of T a b) ≡ false = missing_code _ (sym (is_meet a b n at.1 at.2 at.3)) in
         let none : has_meets T ≡ false = missing_meets a b at.1 at.2 gone in
-        record {
-          refusal = rw none e;
-          meets = λ z. absurd (omega arith);
-          highest = λ z. absurd (omega arith);
-          top = λ z. absurd (omega arith);
-        }
+        record { refusal = rw none refl; derived = tt }
 
-    module _ (some : top ≡ n → ⊥) (meets : List ℕ) (meets_found : MeetsFound order n 81 meets true) where
+    module _ (top : ℕ) (is : Some top ≡ best_of order n members) (meets : List ℕ) (meets_found : MeetsFound order n 81 (Some meets)) where
       top_same : top ≡ top_of T
-      top_same = is_top members top all is
+      top_same = is_top members top all (best_some order n members top is).0
 
       meets_same : (a b : ℕ) → a < n → b < n → (get_or meets (a * 9 + b) 0 ≡ meet_of T a b) × (get_or meets (a * 9 + b) 0 < n)
       meets_same a b h k =
           let row : (a * 9 + b) / 9 ≡ a = omega arith in
           let place : (a * 9 + b) % 9 ≡ b = omega arith in
-          let best = meets_found.found refl (a * 9 + b) (omega arith) (omega arith) (omega arith) in
+          let best = meets_found (a * 9 + b) (omega arith) (omega arith) (omega arith) in
           (is_meet a b _ h k (rw (row, place) at best.0), best.1)
 
       all_meet : has_meets T ≡ true
       unfolding has_meets
       all_meet =
           and_both (exists T (top_of T)) (every (words T) (λ a. every (words T) (λ b. exists T (meet_of T a b))))
-          (exists_code (top_of T) (omega (arith, top_same, best_most order n members top is)))
+          (exists_code (top_of T) (omega (arith, top_same, best_some order n members top is)))
           (every_of (words T) (λ a. every (words T) (λ b. exists T (meet_of T a b))) (λ a h.
           every_of (words T) (λ b. exists T (meet_of T a b)) (λ b k.
           let m = meets_same a b (omega (arith, holds.counted)) (omega (arith, holds.counted)) in exists_code (meet_of T a b) (omega (arith, m.0, m.1)))))
 
-      pub no_highest : (r : Derived) (highest : List ℕ) → HighestFound order bits n 5 highest false → r.number ≡ 27 → Derives T r
+      pub no_highest : HighestFound order bits n 5 None → Derives T (Err Highest)
       unfolding first_failing
-      no_highest r highest found e =
-          let at = found.none refl in
+      no_highest at =
           let gone : exists T (highest_of T at.0) ≡ false = missing_code _ (sym (is_highest at.0 n at.2)) in
           let none : has_highest T ≡ false = missing_highest at.0 at.1 gone in
-          record {
-            refusal = rw (all_meet, none) e;
-            meets = λ z. absurd (omega arith);
-            highest = λ z. absurd (omega arith);
-            top = λ z. absurd (omega arith);
-          }
+          record { refusal = rw (all_meet, none) refl; derived = tt }
 
-      module _ (highest : List ℕ) (highest_found : HighestFound order bits n 5 highest true) where
+      module _ (highest : List ℕ) (highest_found : HighestFound order bits n 5 (Some highest)) where
         all_highest : has_highest T ≡ true
         unfolding has_highest
         all_highest =
             every_of 5 (λ o. exists T (highest_of T o)) (λ o h.
-            let best = highest_found.found refl o h in
+            let best = highest_found o h in
             let same : get_or highest o 0 ≡ highest_of T o = is_highest o (get_or highest o 0) best.0 in
             exists_code (highest_of T o) (omega (arith, same, best.1)))
 
-        pub derived_all : (r : Derived) → r.meets ≡ meets → r.highest ≡ highest → r.top ≡ top → r.number ≡ 0 → Derives T r
+        pub derived_all : Derives T (Ok (record { meets = meets; highest = highest; top = top }))
         unfolding first_failing
-        derived_all r m h t e =
+        derived_all =
             record {
-              refusal = rw (all_meet, all_highest) e;
-              meets = λ _ a b below-a below-b. rw m (meets_same a b (omega (arith, holds.counted)) (omega (arith, holds.counted))).0;
-              highest = λ _ o below. rw h (is_highest o _ (highest_found.found refl o below).0);
-              top = λ _. t ∙ top_same;
+              refusal = rw (all_meet, all_highest) refl;
+              derived = record {
+                meets = λ a b below-a below-b. (meets_same a b (omega (arith, holds.counted)) (omega (arith, holds.counted))).0;
+                highest = λ o below. (is_highest o _ (highest_found o below).0);
+                top = top_same;
+              };
             }

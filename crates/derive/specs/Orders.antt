@@ -1,5 +1,5 @@
 -- The order of nine qualifiers as an array of nine by nine, and what is found in it.
-use Rattle.std.specs.Prelude.{ℕ, ◌+◌, ◌-◌, ◌*◌, ◌/◌, ◌%◌, ◌<◌, Bool, true, false, ◌&&◌, ◌||◌, List, [], ◌≡◌, eqb, ltb, get_or}
+use Rattle.std.specs.Prelude.{ℕ, ◌+◌, ◌-◌, ◌*◌, ◌/◌, ◌%◌, ◌<◌, Bool, false, cond, ◌&&◌, ◌||◌, Option, Some, None, List, [], ◌≡◌, eqb, ltb, get_or}
 use Rattle.scheme.specs.Lists.{implies, every, first}
 use Rattle.scheme.specs.Filled.{Filled}
 use Rattle.derive.specs.declared.Bits.{Bits}
@@ -27,6 +27,10 @@ above_all order words members c = every words (λ d. implies (Member members d) 
 unfoldable pub best : List Bool → ℕ → List Bool → ℕ
 best order words members = first words (λ c. Member members c && above_all order words members c)
 
+-- The same, where there is one.
+unfoldable pub best_of : List Bool → ℕ → List Bool → Option ℕ
+best_of order words members = cond (ltb (best order words members) words) (Some (best order words members)) None
+
 unfoldable pub both_below : List Bool → ℕ → ℕ → ℕ → Bool
 both_below order a b c = order_at order c a && order_at order c b
 
@@ -43,11 +47,11 @@ abbrev pub IsBest : List Bool → ℕ → (ℕ → Bool) → ℕ → Type 0
 IsBest order words test c = (members : List Bool) × Members test 9 members × (c ≡ best order words members)
 
 -- The meets of the pairs in the first n places, or two qualifiers that have none.
-pub record MeetsFound (order : List Bool) (words n : ℕ) (meets : List ℕ) (r : Bool) : Type 0 where
-  pub found : r ≡ true → (i : ℕ) → i < n → i / 9 < words → i % 9 < words → IsBest order words (both_below order (i / 9) (i % 9)) (get_or meets i 0) × (get_or meets i 0 < words)
-  pub none : r ≡ false → (i : ℕ) × (i / 9 < words) × (i % 9 < words) × IsBest order words (both_below order (i / 9) (i % 9)) words
+abbrev pub MeetsFound : List Bool → ℕ → ℕ → Option (List ℕ) → Type 0
+MeetsFound order words n (Some meets) = (i : ℕ) → i < n → i / 9 < words → i % 9 < words → IsBest order words (both_below order (i / 9) (i % 9)) (get_or meets i 0) × (get_or meets i 0 < words)
+MeetsFound order words n None = (i : ℕ) × (i / 9 < words) × (i % 9 < words) × IsBest order words (both_below order (i / 9) (i % 9)) words
 
 -- The highest of the first n operations, or one that has none.
-pub record HighestFound (order : List Bool) (bits : List Bits) (words n : ℕ) (highest : List ℕ) (r : Bool) : Type 0 where
-  pub found : r ≡ true → (o : ℕ) → o < n → IsBest order words (λ c. supports_at bits c o) (get_or highest o 0) × (get_or highest o 0 < words)
-  pub none : r ≡ false → (o : ℕ) × (o < 5) × IsBest order words (λ c. supports_at bits c o) words
+abbrev pub HighestFound : List Bool → List Bits → ℕ → ℕ → Option (List ℕ) → Type 0
+HighestFound order bits words n (Some highest) = (o : ℕ) → o < n → IsBest order words (λ c. supports_at bits c o) (get_or highest o 0) × (get_or highest o 0 < words)
+HighestFound order bits words n None = (o : ℕ) × (o < 5) × IsBest order words (λ c. supports_at bits c o) words

@@ -1,5 +1,6 @@
 pub mod Every
 pub mod Filling
+pub mod Chains
 pub mod Qualifier
 pub mod Schemes
 pub mod Six

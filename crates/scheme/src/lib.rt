@@ -1,4 +1,5 @@
 // The qualifiers by their codes: the built-in six with PLAIN, what a code stands for, and the ruling of any scheme table.
+// Codes and no enums, a constant table and matches over codes: document 01 names these forms.
 #![tactic(auto)]
 
 ghost use Rattle.std.specs.Prelude.{◌≡◌, ℕ, ◌<◌};

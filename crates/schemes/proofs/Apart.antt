@@ -1,35 +1,15 @@
 -- The loops over pairs of lines: two may be like one another only where they are one.
 use Prim.Native.Nat.{ℕ, ◌≤◌, ◌<◌}
-use mathlib.Core.Bool.{Bool, true, false, not, beq}
+use mathlib.Core.Bool.{Bool, true, false}
 use mathlib.Core.List.{List}
 use mathlib.Core.Path.{◌≡◌, refl, sym, ◌∙◌}
 use lib.Dec.{eqb}
-use lib.ListN.{get_or}
-use borrow.Author.Tests.{eq-eqb, ne_eqb, not-true, not-false}
+use borrow.Author.Tests.{eq-eqb, ne_eqb}
 use Rattle.scheme.specs.Lists.{implies}
 use Rattle.scheme.proofs.Every.{every_true, every_false}
 use Rattle.model.specs.Lists.{same}
-use Rattle.derive.specs.Orders.{bits_at}
-use Rattle.derive.specs.declared.Bits.{Bits}
 use Rattle.schemes.specs.Lines.{name_at}
-use Rattle.schemes.specs.Pairs.{same_name, alike_at, alone, apart}
-
--- Two schemes, digit by digit.
-unfoldable pub Agree : List Bool → List Bool → ℕ → Type 0
-Agree a b k = beq (get_or a k false) (get_or b k false) ≡ true
-
-pub agree_here : (a b : List Bool) (k : ℕ) → not (beq (get_or a k false) (get_or b k false)) ≡ false → Agree a b k
-unfolding Agree
-agree_here a b k e = not-false _ e
-
-module _ (bits : List Bits) (i j o : ℕ) where
-  pub alike_true : 5 ≤ o → ((k : ℕ) → k < o → Agree (bits_at bits i) (bits_at bits j) k) → true ≡ alike_at bits i j
-  unfolding alike_at Agree
-  alike_true past h = every_true 5 (λ o. beq (get_or (bits_at bits i) o false) (get_or (bits_at bits j) o false)) o past h
-
-  pub alike_false : o < 5 → not (beq (get_or (bits_at bits i) o false) (get_or (bits_at bits j) o false)) ≡ true → false ≡ alike_at bits i j
-  unfolding alike_at
-  alike_false below e = every_false 5 (λ o. beq (get_or (bits_at bits i) o false) (get_or (bits_at bits j) o false)) o below (not-true _ e)
+use Rattle.schemes.specs.Pairs.{same_name, alone, apart}
 
 -- Two names.
 pub same_name_lem : (file : List ℕ) (i j : ℕ) (s t : List ℕ) (p : Bool) → s ≡ name_at file i → t ≡ name_at file j → p ≡ same s t → p ≡ same_name file i j
@@ -41,18 +21,17 @@ module _ (like : ℕ → ℕ → Bool) where
   Differ i j = implies (like i j) (eqb i j) ≡ true
 
   -- One pair.
-  module _ (i j : ℕ) where
-    pub apart_not : (p : Bool) → p ≡ like i j → p ≡ false → Differ i j
-    unfolding Differ
-    apart_not p is e = let e' : like i j ≡ false = sym is ∙ e in rw e' refl
+  pub differ_one : (i j : ℕ) → i ≡ j → Differ i j
+  unfolding Differ
+  differ_one i j e = by (like i j)
+    where
+      by : (b : Bool) → implies b (eqb i j) ≡ true
+      by true = eq-eqb i j e
+      by false = refl
 
-    pub apart_one : i ≡ j → Differ i j
-    unfolding Differ
-    apart_one e = by (like i j)
-      where
-        by : (b : Bool) → implies b (eqb i j) ≡ true
-        by true = eq-eqb i j e
-        by false = refl
+  pub differ_not : (i j : ℕ) (p : Bool) → p ≡ like i j → p ≡ false → Differ i j
+  unfolding Differ
+  differ_not i j p is e = let e' : like i j ≡ false = sym is ∙ e in rw e' refl
 
   -- All pairs of one.
   module _ (n i j : ℕ) where

@@ -1,10 +1,11 @@
 pub mod Forms
-pub mod Lines
+pub mod Texts
 pub mod Apart
+pub mod Entries
 pub mod Storing
 pub mod Names
-pub mod Written
-pub mod Entries
 pub mod Six
+pub mod Written
 pub mod Opening
+pub mod Lines
 pub mod Linkage

@@ -5,7 +5,7 @@ use mathlib.Core.Bool.{Bool, true, false}
 use mathlib.Core.List.{List, [], ◌∷◌}
 use mathlib.Core.Path.{◌≡◌, refl, sym, ap, ◌∙◌}
 use lib.ListN.{length, get_or, take, drop, drop_of_length-le}
-use Rattle.scheme.proofs.Every.{every_true, every_false}
+use Rattle.scheme.proofs.Every.{every_false}
 use Rattle.model.specs.Line.{field, lines_of}
 use Rattle.model.specs.SchemeFile.{is_scheme_line}
 use Rattle.lines.specs.Lines.{line_length}
@@ -76,7 +76,7 @@ pub name_is : (file l s : List ℕ) (k : ℕ) → l ≡ line_at file k → s ≡
 unfolding name_at
 name_is file l s k at is = cc
 
--- The loop over the lines' forms.
+-- A line's form, and what the first line without it says of all.
 unfoldable pub FormedAt : List ℕ → ℕ → Type 0
 FormedAt file k = is_scheme_line (line_at file k) ≡ true
 
@@ -88,7 +88,3 @@ module _ (file : List ℕ) (n k : ℕ) where
   pub formed_false : k < n → (s : List ℕ) (p : Bool) → s ≡ line_at file k → p ≡ is_scheme_line s → p ≡ false → false ≡ well_formed file n
   unfolding well_formed
   formed_false below s p at is e = every_false n (λ k. is_scheme_line (line_at file k)) k below (rw (sym at) (sym is ∙ e))
-
-  pub formed_true : n ≤ k → ((i : ℕ) → i < k → FormedAt file i) → true ≡ well_formed file n
-  unfolding well_formed FormedAt
-  formed_true past h = every_true n (λ k. is_scheme_line (line_at file k)) k past h

@@ -1,13 +1,13 @@
 -- The names of a file as one text: a comma and a name more give one field more.
-use Prim.Native.Nat.{ℕ, suc, ◌+◌, ◌≤◌, ◌<◌}
+use Prim.Native.Nat.{ℕ, ◌+◌, ◌≤◌, ◌<◌}
 use native.Mathlib.Omega.{arith}
 use native.Mathlib.Numerals.{add-one}
 use mathlib.Core.Bool.{Bool, true, false, not, ◌&&◌, cond}
-use mathlib.Core.List.{List, [], ◌∷◌, ◌++◌, map, append_assoc, append-nil}
+use mathlib.Core.List.{List, [], ◌∷◌, ◌++◌, map}
 use mathlib.Core.Path.{◌≡◌, refl, sym, ap, ap₂, ◌∙◌}
 use lib.Dec.{eqb, leb}
-use lib.ListN.{length, get_or, take, set, length-set, length-map, get_or-map}
-use lib.Seq.{take-suc, take-suc-set, take-length}
+use lib.ListN.{length, take, length-append, length-map, get_or-map}
+use lib.Seq.{take-suc}
 use borrow.Author.Tests.{leb-true, ne_eqb}
 use Rattle.scheme.proofs.Every.{and_left, and_right}
 use Rattle.model.specs.Lists.{all_of, same, bytes}
@@ -17,26 +17,8 @@ use Rattle.scheme.proofs.Schemes.{name_short}
 use Rattle.model.proofs.Opened.{line_name}
 use Rattle.tokens.proofs.Parting.{some_field}
 use Rattle.schemes.specs.Lines.{line_at, name_at, Formed}
-use Rattle.schemes.specs.Stored.{Put, NamesHeld}
+use Rattle.schemes.specs.Stored.{NamesHeld}
 use Rattle.schemes.proofs.Storing.{formed_at}
-
--- The turns of the loop that puts bytes into a text.
-module _ (text : List ℕ) (at : ℕ) (s : List ℕ) where
-  pub put_none : length text ≡ 47 → Put text at s 0 text
-  put_none e = let here : at + 0 ≡ at = omega arith in record { sized = e; same = rw here (sym (append-nil (take at text))) }
-
-  module _ (i : ℕ) (all : List ℕ) (p : Put text at s i all) where
-    pub put_more : i < length s → at + i < 47 → Put text at s (i + 1) (set all (at + i) (get_or s i 0))
-    put_more h room =
-        let next : at + (i + 1) ≡ suc (at + i) = omega arith in
-        let inside : at + i < length all = omega (arith, p.sized) in
-        record {
-          sized = length-set all (at + i) (get_or s i 0) ∙ p.sized;
-          same = rw (next, take-suc-set all (at + i) (get_or s i 0) inside, p.same, add-one, take-suc s i 0 h, append_assoc) refl;
-        }
-
-    pub put_all : i ≤ length s → length s ≤ i → Put text at s (length s) all
-    put_all few past = let e : i ≡ length s = omega arith in rw e at p
 
 -- The fields of a text with a comma in it, and of one without.
 onto_append : (b : ℕ) (fs gs : List (List ℕ)) → 0 < length fs → onto b (fs ++ gs) ≡ onto b fs ++ gs
@@ -87,41 +69,29 @@ module _ (file : List ℕ) (n k : ℕ) (formed : Formed file n) (below : k < n) 
     short : length s ≤ 5
     short = leb-true (length s) 5 (name_short s name_here)
 
-    module _ (names : List ℕ) (size : ℕ) (held : NamesHeld file k names size) where
-      pub held_room : size + 1 + length s ≤ 47
+    module _ (text : List ℕ) (held : NamesHeld file k text) where
+      pub held_room : length text + 1 + length s ≤ 47
       held_room = omega (arith, held.room, formed.few, short)
 
-      pub held_more : (r : List ℕ) → Put (set names size 44) (size + 1) s (length s) r → NamesHeld file (k + 1) r (size + (length s + 1))
-      held_more r p =
-          let place : size + (length s + 1) ≡ size + 1 + length s = omega arith in
-          let inside : size < length names = omega (arith, held.room, held.sized, formed.few) in
-          let front : take (size + 1) (set names size 44) ≡ take size names ++ (44 ∷ []) = rw add-one (take-suc-set names size 44 inside) in
-          let whole : take (size + (length s + 1)) r ≡ take size names ++ (44 ∷ s) =
-          ap (λ (i : ℕ). take i r) place ∙ p.same ∙ ap₂ ◌++◌ front (take-length s) ∙ append_assoc (take size names) (44 ∷ []) s in
+      pub held_more : NamesHeld file (k + 1) (text ++ (44 ∷ s))
+      held_more =
           record {
-            sized = p.sized;
-            room = omega (arith, held.room, short);
+            room = omega (arith, held.room, short, length-append text (44 ∷ s));
             same =
-                ap fields whole
-                ∙ fields_comma (take size names) s
+                fields_comma text s
                 ∙ ap₂ ◌++◌ held.same (name_field s name_here)
                 ∙ ap (λ (name : List ℕ). take k (table_of (lines_of file)).names ++ (name ∷ [])) is
                 ∙ sym names_more;
           }
 
 -- The first name stands alone.
-pub held_first : (file : List ℕ) (n : ℕ) → Formed file n → (s text names : List ℕ) → s ≡ name_at file 0 → Put text 0 s (length s) names → NamesHeld file 1 names (length s)
-held_first file n formed s text names is p =
+pub held_first : (file : List ℕ) (n : ℕ) → Formed file n → (s : List ℕ) → s ≡ name_at file 0 → NamesHeld file 1 s
+held_first file n formed s is =
     let name = name_here file n 0 formed formed.some s is in
-    let all : length s ≡ 0 + length s = omega arith in
     record {
-      sized = p.sized;
       room = omega (arith, short file n 0 formed formed.some s is);
-      same = ap fields (ap (λ (i : ℕ). take i names) all ∙ p.same ∙ take-length s) ∙ name_field s name ∙ ap (λ (name : List ℕ). name ∷ []) is ∙ sym (names_more file n 0 formed formed.some);
+      same = name_field s name ∙ ap (λ (name : List ℕ). name ∷ []) is ∙ sym (names_more file n 0 formed formed.some);
     }
 
-pub first_room : (file : List ℕ) (n : ℕ) → Formed file n → (s : List ℕ) → s ≡ name_at file 0 → 0 + length s ≤ 47
+pub first_room : (file : List ℕ) (n : ℕ) → Formed file n → (s : List ℕ) → s ≡ name_at file 0 → length s ≤ 47
 first_room file n formed s is = omega (arith, short file n 0 formed formed.some s is)
-
-pub held_all : (file : List ℕ) (n k : ℕ) (names : List ℕ) (size : ℕ) → NamesHeld file k names size → k ≤ n → n ≤ k → NamesHeld file n names size
-held_all file n k names size held few past = let e : k ≡ n = omega arith in rw e at held

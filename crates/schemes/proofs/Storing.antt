@@ -1,11 +1,10 @@
 -- The digits of the lines, stored one scheme after the other.
 use Prim.Native.Nat.{ℕ, ◌+◌, ◌<◌}
-use native.Mathlib.Omega.{arith}
 use mathlib.Core.Bool.{true, ◌&&◌}
-use mathlib.Core.List.{List, [], ◌∷◌, map}
-use mathlib.Core.Path.{◌≡◌, refl, ap, ◌∙◌}
+use mathlib.Core.List.{List, map}
+use mathlib.Core.Path.{◌≡◌, ap, ◌∙◌}
 use lib.Dec.{eqb}
-use lib.ListN.{length, get_or, set}
+use lib.ListN.{length, set}
 use borrow.Author.Tests.{eqb-true}
 use Rattle.scheme.proofs.Every.{every_at, and_left, and_right}
 use Rattle.scheme.proofs.Filling.{filled_more}
@@ -15,16 +14,6 @@ use Rattle.model.specs.SchemeFile.{is_name, is_bit, is_bits, is_scheme_line}
 use Rattle.derive.specs.declared.Bits.{Bits}
 use Rattle.schemes.specs.Lines.{line_at, digits_at, well_formed, Formed}
 use Rattle.schemes.specs.Stored.{Stored}
-
--- Five digits one by one.
-pub digits_five : (s : List ℕ) → length s ≡ 5 → (eqb 49 (get_or s 0 0) ∷ eqb 49 (get_or s 1 0) ∷ eqb 49 (get_or s 2 0) ∷ eqb 49 (get_or s 3 0) ∷ eqb 49 (get_or s 4 0) ∷ []) ≡ map (eqb 49) s
-digits_five [] h = absurd (omega arith)
-digits_five (a ∷ []) h = absurd (omega arith)
-digits_five (a ∷ b ∷ []) h = absurd (omega arith)
-digits_five (a ∷ b ∷ c ∷ []) h = absurd (omega arith)
-digits_five (a ∷ b ∷ c ∷ d ∷ []) h = absurd (omega arith)
-digits_five (a ∷ b ∷ c ∷ d ∷ e ∷ []) h = refl
-digits_five (a ∷ b ∷ c ∷ d ∷ e ∷ f ∷ s) h = absurd (omega arith)
 
 -- A scheme line has five digits.
 line_bits : (s : List ℕ) → is_scheme_line s ≡ true → is_bits (field s 2) ≡ true

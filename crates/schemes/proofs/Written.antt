@@ -1,12 +1,13 @@
 -- From what the loops found to the definition of a well-written file.
-use Prim.Native.Nat.{ℕ, suc, ◌+◌, ◌-◌, ◌≤◌, ◌<◌}
+use Prim.Native.Nat.{ℕ, zero, suc, ◌+◌, ◌-◌, ◌≤◌, ◌<◌}
 use native.Mathlib.Omega.{arith}
 use mathlib.Core.Bool.{Bool, true, false, ◌&&◌, beq, and-false, and-true}
-use mathlib.Core.List.{List, [], map}
+use mathlib.Core.List.{List, [], ◌∷◌, map}
 use mathlib.Core.Path.{◌≡◌, refl, sym, ap, ◌∙◌}
 use lib.Dec.{eqb, leb}
 use lib.ListN.{length, get_or, length-map, get_or-map}
 use borrow.Author.Tests.{ne_eqb, le-leb, lt-leb, leb-true, lt-ltb}
+use Rattle.std.specs.Cmp.Lexicographic.{pointwise}
 use Rattle.scheme.specs.Lists.{implies, every}
 use Rattle.scheme.specs.Schemes.{supports, alike, bits_differ, fitting}
 use Rattle.scheme.proofs.Every.{and_left, and_right, every_same, every_element}
@@ -19,6 +20,16 @@ use Rattle.derive.specs.declared.Bits.{Bits}
 use Rattle.schemes.specs.Lines.{line_at, name_at, digits_at, well_formed, Formed}
 use Rattle.schemes.specs.Pairs.{same_name, alike_at, alone, apart}
 use Rattle.schemes.specs.Stored.{Stored}
+use Rattle.schemes.proofs.Storing.{formed_five}
+
+-- Two lists of n digits.
+pointwise_every : (n : ℕ) (a b : List Bool) → length a ≡ n → length b ≡ n → pointwise beq a b ≡ every n (λ o. beq (get_or a o false) (get_or b o false))
+pointwise_every zero [] [] p q = refl
+pointwise_every zero [] (y ∷ ys) p q = absurd (omega arith)
+pointwise_every zero (x ∷ xs) b p q = absurd (omega arith)
+pointwise_every (suc n) [] b p q = absurd (omega arith)
+pointwise_every (suc n) (x ∷ xs) [] p q = absurd (omega arith)
+pointwise_every (suc n) (x ∷ xs) (y ∷ ys) p q = ap (λ rest. beq x y && rest) (pointwise_every n xs ys (omega arith) (omega arith))
 
 module _ (file : List ℕ) (n : ℕ) (count : n ≡ length (lines_of file)) where
   formed_same : well_formed file n ≡ all_of is_scheme_line (lines_of file)
@@ -48,6 +59,14 @@ module _ (file : List ℕ) (n : ℕ) (count : n ≡ length (lines_of file)) wher
       (every_same n _ _ (λ i hi. every_same n _ _ (λ j hj. let a = name_at_lem i in let b = name_at_lem j in rw (a, b) refl)))
 
   module _ (bits : List Bits) (stored : Stored file n bits) where
+    -- `==` on the digits of two schemes.
+    pub digits_alike : Formed file n → (i j : ℕ) → i < n → j < n → pointwise beq (bits_at bits i) (bits_at bits j) ≡ alike_at bits i j
+    unfolding alike_at digits_at
+    digits_alike formed i j hi hj = pointwise_every 5 (bits_at bits i) (bits_at bits j) (many i hi) (many j hj)
+      where
+        many : (k : ℕ) → k < n → length (bits_at bits k) ≡ 5
+        many k h = ap length (stored.held k h) ∙ length-map (field (line_at file k) 2) (eqb 49) ∙ formed_five file n k formed h _ _ refl refl
+
     digit_same : (i o : ℕ) → i < n → o < 5 → get_or (bits_at bits i) o false ≡ supports (table_of (lines_of file)) (suc i) o
     digit_same i o hi ho =
         let e : suc i - 1 ≡ i = omega arith in
@@ -115,5 +134,3 @@ module _ (file : List ℕ) (n : ℕ) (count : n ≡ length (lines_of file)) wher
         few = omega (arith, leb-true (length lines) 8 (and_right (leb 1 (length lines)) (leb (length lines) 8) fits));
         formed = formed_same ∙ and_right (fitting (length lines)) (all_of is_scheme_line lines) formed;
       }
-
-pub ruleset writtens = (unwritten_few, unwritten_many, unwritten_form, unwritten_bits, lines_formed, written_names)

@@ -3,4 +3,3 @@ pub mod Reads
 pub mod Lines
 pub mod Pairs
 pub mod Stored
-pub mod Entries

@@ -1,5 +1,5 @@
 -- What is stored of a scheme file: the digits of its lines, and their names as one text.
-use Rattle.std.specs.Prelude.{ℕ, ◌+◌, ◌*◌, ◌<◌, List, [], ◌++◌, ◌≡◌, length, take}
+use Rattle.std.specs.Prelude.{ℕ, ◌*◌, ◌<◌, List, [], ◌≡◌, length, take}
 use Rattle.scheme.specs.Filled.{Filled}
 use Rattle.model.specs.Line.{fields, lines_of}
 use Rattle.model.specs.SchemeFile.{table_of}
@@ -10,13 +10,7 @@ use Rattle.schemes.specs.Lines.{digits_at}
 abbrev pub Stored : List ℕ → ℕ → List Bits → Type 0
 Stored file n bits = Filled (record { bits = [] }) 8 (λ k b. b.bits ≡ digits_at file k) n bits
 
--- The first n of the bytes stand in the text from a place on, after what stood before that place.
-pub record Put (text : List ℕ) (at : ℕ) (s : List ℕ) (n : ℕ) (r : List ℕ) : Type 0 where
-  pub sized : length r ≡ 47
-  pub same : take (at + n) r ≡ take at text ++ take n s
-
--- The first bytes are the names of the first n lines, parted by commas: at most five bytes and a comma for each.
-pub record NamesHeld (file : List ℕ) (n : ℕ) (names : List ℕ) (size : ℕ) : Type 0 where
-  pub sized : length names ≡ 47
-  pub room : size < 6 * n
-  pub same : fields (take size names) ≡ take n (table_of (lines_of file)).names
+-- The text is the names of the first n lines, parted by commas: at most five bytes and a comma for each.
+pub record NamesHeld (file : List ℕ) (n : ℕ) (text : List ℕ) : Type 0 where
+  pub room : length text < 6 * n
+  pub same : fields text ≡ take n (table_of (lines_of file)).names

@@ -51,14 +51,7 @@ pub(crate) fn line(file: &[u8], k: usize) -> &[u8]
 pub(crate) fn all_formed(file: &[u8], n: usize) -> bool
     ensures { result ≡ well_formed file.now n }
 {
-    let mut k = 0;
-    while k < n {
-        if !is_scheme_line(line(file, k)) {
-            return false;
-        }
-        k += 1;
-    }
-    true
+    (0..n).all(|k| is_scheme_line(line(file, k)))
 }
 
 // The name in line k.

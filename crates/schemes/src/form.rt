@@ -5,7 +5,6 @@ ghost use Rattle.schemes.specs.Lines.{all_between};
 
 use scheme::OPERATIONS;
 use tokens::fields;
-use tokens::words::same;
 
 // A name's most bytes.
 const LONGEST: usize = 5;
@@ -14,57 +13,29 @@ const LONGEST: usize = 5;
 fn all_between(s: &[u8], lo: u8, hi: u8) -> bool
     ensures { result ≡ all_between lo hi s.now }
 {
-    let mut i = 0;
-    while i < s.len() {
-        if s[i] < lo {
-            return false;
-        }
-        if s[i] > hi {
-            return false;
-        }
-        i += 1;
-    }
-    true
+    s.iter().all(|b| (lo..=hi).contains(b))
 }
 
 // 1 to 5 capitals, and not PLAIN.
 fn is_name(s: &[u8]) -> bool
     ensures { result ≡ is_name s.now }
 {
-    if s.len() < 1 {
-        return false;
-    }
-    if s.len() > LONGEST {
-        return false;
-    }
-    if same(s, b"PLAIN") {
-        return false;
-    }
-    all_between(s, b'A', b'Z')
+    1 <= s.len() && s.len() <= LONGEST && all_between(s, b'A', b'Z') && s != b"PLAIN".as_slice()
 }
 
 // Five digits 0 or 1.
 fn is_bits(s: &[u8]) -> bool
     ensures { result ≡ is_bits s.now }
 {
-    if s.len() != OPERATIONS {
-        return false;
-    }
-    all_between(s, b'0', b'1')
+    s.len() == OPERATIONS && all_between(s, b'0', b'1')
 }
 
 // `S,name,bits`
 pub(crate) fn is_scheme_line(s: &[u8]) -> bool
     ensures { result ≡ is_scheme_line s.now }
 {
-    if fields::count(s) != 3 {
-        return false;
-    }
-    if !same(fields::field(s, 0), b"S") {
-        return false;
-    }
-    if !is_name(fields::field(s, 1)) {
-        return false;
-    }
-    is_bits(fields::field(s, 2))
+    fields::count(s) == 3
+        && fields::field(s, 0) == b"S".as_slice()
+        && is_name(fields::field(s, 1))
+        && is_bits(fields::field(s, 2))
 }

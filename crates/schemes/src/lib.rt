@@ -12,15 +12,18 @@ ghost use Rattle.scheme.specs.Six.{six_table};
 ghost use Rattle.model.specs.Line.{lines_of};
 ghost use Rattle.model.specs.SchemeFile.{well_written};
 ghost use Rattle.schemes.specs.Schemes.{table_in, Kept};
-ghost use Rattle.schemes.specs.Reads.{Reads, GivesSix};
+ghost use Rattle.schemes.specs.Reads.{refusal_number, Reads, ReadsTable, GivesSix};
 
-use derive::Bits;
+use derive::{Bits, Missing};
+use pairs::apart;
+use ruling::SIX;
 use scheme::{OPERATIONS, RULE, SCHEMES};
+use store::Joined;
 
 // The most bytes of the names: eight of five, with the commas between them.
 pub const NAMES: usize = 47;
 
-// A scheme table: the names parted by commas, what each scheme supports, and the ruling of these. Of each array as much stands as its count says.
+// A scheme table: the names parted by commas, what each scheme supports, and the ruling of these. Of each array as much stands as its count says: there is no heap.
 #[derive(Clone, Copy)]
 pub struct Schemes {
     pub names: [u8; NAMES],
@@ -30,7 +33,34 @@ pub struct Schemes {
     pub rule: [u8; RULE],
 }
 
-// What a file gives: its scheme table and 0, or the six and the number of the refusal.
+// Why a file is refused: its lines are not written as a scheme file's, or what the solver reads does not exist.
+enum Refusal {
+    Form,
+    Missing(Missing),
+}
+
+impl From<Missing> for Refusal {
+    ghost use Rattle.schemes.specs.declared.Refusal.TheVariants.{Missing};
+
+    ghost from_gives = { λ missing refusal. refusal ≡ Missing missing };
+
+    fn from(missing: Missing) -> Refusal {
+        Refusal::Missing(missing)
+    }
+}
+
+impl From<Refusal> for u16 {
+    ghost from_gives = { λ refusal number. number ≡ refusal_number refusal };
+
+    fn from(refusal: Refusal) -> u16 {
+        match refusal {
+            Refusal::Form => 25,
+            Refusal::Missing(missing) => missing.into(),
+        }
+    }
+}
+
+// What a file gives: its scheme table and 0, or the six and the number of the refusal. No Result, for `Reads` says the table of a refused file too.
 #[derive(Clone, Copy)]
 pub struct Opened {
     pub schemes: Schemes,
@@ -69,7 +99,7 @@ impl Schemes {
                 none,
             ],
             count: 6,
-            rule: ruling::six_rule(),
+            rule: ruling::fill(&ruling::six(), SIX as u8),
         }
     }
 
@@ -77,31 +107,31 @@ impl Schemes {
     pub fn open(file: &[u8]) -> Opened
         ensures { Reads file.now result }
     {
+        match Schemes::read(file) {
+            Ok(schemes) => Opened { schemes, number: 0 },
+            Err(refusal) => refused(refusal.into()),
+        }
+    }
+
+    // The scheme table of a file that has one.
+    fn read(file: &[u8]) -> Result<Schemes, Refusal>
+        ensures { ReadsTable file.now result }
+    {
         if !is_well_written(file) {
-            return refused(25);
+            return Err(Refusal::Form);
         }
         let count = file::count(file);
         let bits = store::bits_of(file, count);
-        let derived = derive::derive(bits, count);
-        if derived.number != 0 {
-            return refused(derived.number);
-        }
-        let joined = store::names_of(file, count);
-        let meets = derived.meets;
-        let highest = derived.highest;
-        let rule = ruling::fill(&meets, &highest, derived.top, (count + 1) as u8);
-        let names = joined.names;
-        let schemes = Schemes {
+        let derived = derive::derive(bits, count)?;
+        let Joined { names, size } = store::names_of(file, count);
+        let rule = ruling::fill(&derived, count as u8 + 1);
+        Ok(Schemes {
             names,
-            size: joined.size,
+            size,
             bits,
             count,
             rule,
-        };
-        Opened {
-            schemes,
-            number: derived.number,
-        }
+        })
     }
 }
 
@@ -109,6 +139,7 @@ impl Schemes {
 pub fn front(bytes: &[u8], count: usize) -> &[u8]
     ensures { result.now ≡ take count bytes.now }
 {
+    // No `min`: it calls std, whose code can't be linked, and `every_list_answered` links all that `infer` calls.
     if bytes.len() <= count {
         return bytes;
     }
@@ -120,19 +151,12 @@ fn is_well_written(file: &[u8]) -> bool
     ensures { result ≡ well_written (lines_of file.now) }
 {
     let n = file::count(file);
-    if n < 1 {
+    if n < 1 || n > SCHEMES || !file::all_formed(file, n) {
         return false;
     }
-    if n > SCHEMES {
-        return false;
-    }
-    if !file::all_formed(file, n) {
-        return false;
-    }
-    if !pairs::bits_apart(store::bits_of(file, n), n) {
-        return false;
-    }
-    pairs::names_apart(file, n)
+    let bits = store::bits_of(file, n);
+    apart(n, |i, j| bits[i] == bits[j])
+        && apart(n, |i, j| file::name(file, i) == file::name(file, j))
 }
 
 // A refused file gives the six.

@@ -1,93 +1,29 @@
 // Repeated names and repeated bits: each scheme is compared with each.
-ghost use Rattle.std.specs.Prelude.{◌≡◌, ◌<◌, ◌≤◌};
-ghost use Rattle.schemes.specs.Pairs.{same_name, alike_at, alone, apart};
+ghost use Rattle.std.specs.Prelude.{◌≡◌, ℕ, ◌<◌, Bool};
+ghost use Rattle.schemes.specs.Pairs.{alone, apart};
 
-use crate::file::name;
-use derive::Bits;
-use scheme::{OPERATIONS, SCHEMES};
-use tokens::words::same;
-
-// Whether no other line has the name of line i.
-fn name_alone(file: &[u8], n: usize, i: usize) -> bool
-    ensures { result ≡ alone (same_name file.now) n i }
+// Whether no other of the first n is like i.
+fn alone<F: Fn(usize, usize) -> bool>(n: usize, i: usize, alike: &F) -> bool
+    requires { (j : ℕ) → j < n → F.pre alike.now i j }
+    ensures { (like : ℕ → ℕ → Bool) → ((j : ℕ) (r : Bool) → j < n → F.post alike.now i j r → r ≡ like i j) → result ≡ alone like n i }
 {
-    let mut j = 0;
-    while j < n {
-        if same(name(file, i), name(file, j)) {
-            if i != j {
-                return false;
-            }
-            j += 1;
-        } else {
-            j += 1;
-        }
-    }
-    true
-}
-
-// Whether no two lines have the same name.
-pub(crate) fn names_apart(file: &[u8], n: usize) -> bool
-    ensures { result ≡ apart (same_name file.now) n }
-{
-    let mut i = 0;
-    while i < n {
-        if !name_alone(file, n, i) {
+    for j in 0..n {
+        if i != j && alike(i, j) {
             return false;
         }
-        i += 1;
     }
     true
 }
 
-// Whether two schemes support the same.
-fn alike(bits: [Bits; SCHEMES], i: usize, j: usize) -> bool
-    requires { (i < 8) × (j < 8) }
-    ensures { result ≡ alike_at bits i j }
+// Whether no two of the first n are alike.
+pub(crate) fn apart<F: Fn(usize, usize) -> bool>(n: usize, alike: F) -> bool
+    requires { (i j : ℕ) → i < n → j < n → F.pre alike i j }
+    ensures { (like : ℕ → ℕ → Bool) → ((i j : ℕ) (r : Bool) → i < n → j < n → F.post alike i j r → r ≡ like i j) → result ≡ apart like n }
 {
-    let left = bits[i];
-    let right = bits[j];
-    let a = left.bits;
-    let b = right.bits;
-    let mut o = 0;
-    while o < OPERATIONS {
-        if a[o] != b[o] {
+    for i in 0..n {
+        if !alone(n, i, &alike) {
             return false;
         }
-        o += 1;
-    }
-    true
-}
-
-// Whether no other scheme supports what scheme i does.
-fn bits_alone(bits: [Bits; SCHEMES], n: usize, i: usize) -> bool
-    requires { (n ≤ 8) × (i < 8) }
-    ensures { result ≡ alone (alike_at bits) n i }
-{
-    let mut j = 0;
-    while j < n {
-        if alike(bits, i, j) {
-            if i != j {
-                return false;
-            }
-            j += 1;
-        } else {
-            j += 1;
-        }
-    }
-    true
-}
-
-// Whether no two schemes support the same.
-pub(crate) fn bits_apart(bits: [Bits; SCHEMES], n: usize) -> bool
-    requires { n ≤ 8 }
-    ensures { result ≡ apart (alike_at bits) n }
-{
-    let mut i = 0;
-    while i < n {
-        if !bits_alone(bits, n, i) {
-            return false;
-        }
-        i += 1;
     }
     true
 }

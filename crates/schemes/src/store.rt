@@ -1,12 +1,14 @@
 // What is stored of a scheme file: the digits of its schemes, and their names as one text.
-ghost use Rattle.std.specs.Prelude.{◌≡◌, map, ◌+◌, ◌≤◌, eqb, length};
+ghost use Rattle.std.specs.Prelude.{◌≡◌, map, ◌+◌, ◌≤◌, eqb, List, ℕ, [], ◌++◌, length, take};
 ghost use Rattle.schemes.specs.Lines.{Formed};
-ghost use Rattle.schemes.specs.Stored.{Stored, Put, NamesHeld};
+ghost use Rattle.schemes.specs.Stored.{Stored, NamesHeld};
 
 use crate::NAMES;
 use crate::file::{line, name};
 use derive::Bits;
-use scheme::{OPERATIONS, SCHEMES};
+use scheme::SCHEMES;
+use std::array;
+use std::marker::Model;
 use tokens::fields;
 
 // Five digits as Booleans.
@@ -15,13 +17,7 @@ fn digits(s: &[u8]) -> Bits
     ensures { result.bits ≡ map (eqb 49) s.now }
 {
     Bits {
-        bits: [
-            b'1' == s[0],
-            b'1' == s[1],
-            b'1' == s[2],
-            b'1' == s[3],
-            b'1' == s[4],
-        ],
+        bits: array::from_fn(|o| b'1' == s[o]),
     }
 }
 
@@ -30,53 +26,59 @@ pub(crate) fn bits_of(file: &[u8], n: usize) -> [Bits; SCHEMES]
     requires { Formed file.now n }
     ensures { Stored file.now n result }
 {
-    let mut all = [Bits {
-        bits: [false; OPERATIONS],
-    }; SCHEMES];
-    let mut k = 0;
-    while k < n {
+    let mut all = [Bits::default(); SCHEMES];
+    for k in 0..n {
         all[k] = digits(fields::field(line(file, k), 2));
-        k += 1;
     }
     all
 }
 
 // Names parted by commas, in the first `size` bytes.
-#[derive(Clone, Copy)]
+#[derive(Drop)]
 pub(crate) struct Joined {
-    pub names: [u8; NAMES],
-    pub size: usize,
+    pub(crate) names: [u8; NAMES],
+    pub(crate) size: usize,
 }
 
-// The text with bytes put in from a place on.
-fn put(text: [u8; NAMES], at: usize, s: &[u8]) -> [u8; NAMES]
-    requires { at + length s.now ≤ 47 }
-    ensures { Put text at s.now (length s.now) result }
-{
-    let mut all = text;
-    let mut i = 0;
-    while i < s.len() {
-        all[at + i] = s[i];
-        i += 1;
+impl Model for Joined {
+    ghost Value = { List ℕ };
+
+    ghost view = { λ j. take j.size j.names };
+
+    ghost invariant = { λ j. j.size ≤ 47 };
+}
+
+impl Joined {
+    fn new() -> Joined
+        ensures { result ≡ [] }
+    {
+        Joined {
+            names: [0; NAMES],
+            size: 0,
+        }
     }
-    all
+
+    // Puts bytes in after those that are there.
+    fn put(&mut self, s: &[u8])
+        requires { length self.old + length s.now ≤ 47 }
+        ensures { self.new ≡ self.old ++ s.now }
+    {
+        let end = self.size + s.len();
+        self.names[self.size..end].copy_from_slice(s);
+        self.size = end;
+    }
 }
 
 // The names of the n lines.
 pub(crate) fn names_of(file: &[u8], n: usize) -> Joined
     requires { Formed file.now n }
-    ensures { NamesHeld file.now n result.names result.size }
+    ensures { NamesHeld file.now n result }
 {
-    let first = name(file, 0);
-    let mut names = put([0u8; NAMES], 0, first);
-    let mut size = first.len();
-    let mut k = 1;
-    while k < n {
-        names[size] = b',';
-        let next = name(file, k);
-        names = put(names, size + 1, next);
-        size += next.len() + 1;
-        k += 1;
+    let mut joined = Joined::new();
+    joined.put(name(file, 0));
+    for k in 1..n {
+        joined.put(b",");
+        joined.put(name(file, k));
     }
-    Joined { names, size }
+    joined
 }

@@ -18,7 +18,7 @@ unfolding highest_of
 returns-in-2 c = sym (ap highest_of c.in-2.is)
 
 pub returns-in-3 : goal.returns-in-3
-returns-in-3 c = sym (highest_compare _ (omega arith) c.in-3.if-operation-lt5-own.true)
+returns-in-3 c = sym (highest_compare _ (omega arith) (omega arith))
 
 pub returns-in_default : goal.returns-in_default
-returns-in_default c = sym (highest_none _ c.in_default.if-operation-lt5-own.false)
+returns-in_default c = sym (highest_none _ (omega arith))

@@ -1,16 +1,16 @@
--- Each end is one test of the definition.
-use borrow.Author.Rules.{rules}
-use Rattle.schemes.proofs.Forms.{forms}
+-- The test is that of the definition.
+use native.Mathlib.Omega.{arith}
+use Rattle.std.proofs.lemmas.Grind.{common_steps}
+use Rattle.std.proofs.lemmas.Bool.Decides.{nat_tests}
+use Rattle.model.specs.SchemeFile.{is_name}
+use Rattle.schemes.specs.Lines.{all_between}
+use Rattle.schemes.proofs.Texts.{pointwise_same}
 use Rattle.schemes.proofs.form.is_name.Goals as goal
 
-pub returns-then-s-lt1 : goal.returns-then-s-lt1
-returns-then-s-lt1 c = search (forms, rules)
+pub returns-then-all_between : goal.returns-then-all_between
+unfolding is_name all_between
+returns-then-all_between c = grind (arith, common_steps, nat_tests, pointwise_same)
 
-pub returns-then-s-gt-LONGEST : goal.returns-then-s-gt-LONGEST
-returns-then-s-gt-LONGEST c = search (forms, rules)
-
-pub returns-then-same : goal.returns-then-same
-returns-then-same c = search (forms, rules)
-
-pub returns : goal.returns
-returns c = search (forms, rules)
+pub returns-else-all_between : goal.returns-else-all_between
+unfolding is_name all_between
+returns-else-all_between c = grind (arith, common_steps, nat_tests, pointwise_same)

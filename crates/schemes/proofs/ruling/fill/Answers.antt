@@ -1,13 +1,17 @@
--- The invariant: the first i bytes are filled in.
-use mathlib.Core.Path.{refl}
-use Rattle.scheme.proofs.Filling.{filled_none, filled_more, filled_all}
+-- The parts stand one after the other.
+use mathlib.Core.List.{[], ◌∷◌}
+use mathlib.Core.Path.{◌≡◌, refl, sym, ap, ◌∙◌}
+use lib.ListN.{length}
+use Rattle.std.proofs.lemmas.List.{drop_at}
+use Rattle.schemes.proofs.Entries.{ruled}
 use Rattle.schemes.proofs.ruling.fill.Goals as goal
 
-pub loop-i-init : goal.loop-i-init
-loop-i-init c = filled_none refl
-
-pub loop-i-preserved : goal.loop-i-preserved
-loop-i-preserved c = filled_more c.loop-i.invariant c.loop-i-test.true c.entry.ensures
-
 pub returns : goal.returns
-returns c = filled_all c.loop-i-test.false c.loop-i.invariant
+returns c = λ T counted few is.
+    let d = c.args.derived.now in
+    let meets : length d.meets ≡ 81 = ap length (sym c.copy_from_slice.ensures.after) ∙ c.copy_from_slice.ensures.len in
+    let highest : length d.highest ≡ 5 =
+    ap length (sym c.copy_from_slice-2.ensures.after)
+    ∙ c.copy_from_slice-2.ensures.len
+    ∙ rw (drop_at c.copy_from_slice.new.self (0 ∷ 0 ∷ 0 ∷ 0 ∷ 0 ∷ 0 ∷ 0 ∷ []) 81 c.copy_from_slice.ensures.len) refl in
+    rw (c.copy_from_slice.ensures.after, c.copy_from_slice-2.ensures.after) (ruled d c.args.qualifiers meets highest T counted few is)
