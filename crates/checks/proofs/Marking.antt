@@ -1,21 +1,22 @@
 -- Values stored at some places, and marks of the numbers that rows name: one row more, whose own numbers are marked.
 use Prim.Native.Nat.{ℕ, zero, suc, ◌≤◌, ◌<◌}
 use native.Mathlib.Omega.{arith}
-use mathlib.Core.Bool.{Bool, true, false, not, ◌&&◌, ◌||◌, or-true, or-false, or_assoc, false≢true}
+use mathlib.Core.Bool.{Bool, true, false, ◌||◌, or-true, or-false, or_assoc, false≢true}
 use mathlib.Core.List.{List, [], ◌∷◌, ◌++◌}
-use mathlib.Core.Path.{◌≡◌, refl, sym, ap, ap₂, ◌∙◌}
+use mathlib.Core.Path.{◌≡◌, refl, sym, ap, ◌∙◌}
 use lib.Dec.{eqb, ltb}
 use lib.ListN.{length, get_or, set, replicate, length-set}
 use lib.Seq.{get_or-set_same, get_or-set_other}
 use borrow.Author.Tests.{eqb-true, eqb-false, lt-ltb, ltb-true}
 use Rattle.scheme.proofs.Every.{and_left, and_right, and_both}
 use Rattle.model.specs.Lists.{any_of, all_of, contains}
-use Rattle.model.specs.Machine.{Machine, children, named, binds, used, bound, twice}
+use Rattle.model.specs.Machine.{Machine, children, named, binds}
 use Rattle.model.specs.declared.Term.{Term}
 use Rattle.model.specs.declared.Term.TheVariants.{Lam, App, Op, Var, Num, Enc}
 use Rattle.model.specs.declared.TermRow.{TermRow}
-use Rattle.checks.specs.Standing.{Free}
-use Rattle.checks.specs.Marks.{is_marked, stores, Marks, Marked, Within}
+use Rattle.checks.specs.Taken.{Tells}
+use Rattle.checks.specs.Marks.{is_marked, stores, Marking, Marked, Within}
+use Rattle.checks.specs.declared.marks.Marks.{Marks}
 use Rattle.checks.proofs.Tests.{or_cases, or_neither}
 use Rattle.checks.proofs.Passed.{TermPassed}
 
@@ -50,14 +51,10 @@ repeated zero k a = refl
 repeated (suc n) zero a = refl
 repeated (suc n) (suc k) a = repeated n k a
 
--- A test of each entry, of one more, and a test that finds the same.
+-- A test of each entry, of one more.
 any_appended : {A : Type 0} (test : A → Bool) (xs : List A) (a : A) → any_of test (xs ++ (a ∷ [])) ≡ (any_of test xs || test a)
 any_appended test [] a = or-false (test a)
 any_appended test (x ∷ xs) a = rw (any_appended test xs a) (sym (or_assoc (test x) (any_of test xs) (test a)))
-
-any_same : (test test' : ℕ → Bool) → ((n : ℕ) → test n ≡ test' n) → (l : List ℕ) → any_of test l ≡ any_of test' l
-any_same test test' same [] = refl
-any_same test test' same (n ∷ l) = ap₂ (λ (a b : Bool). a || b) (same n) (any_same test test' same l)
 
 pub all-below : (k n : ℕ) (l : List ℕ) → all_of (λ c. ltb c k) l ≡ true → contains n l ≡ true → n < k
 all-below k n [] h there = absurd (false≢true there)
@@ -67,8 +64,8 @@ all-below k n (c ∷ l) h there =
     (λ later. all-below k n l (and_right (ltb c k) _ h) later)
 
 -- One row more, where there is a mark for each of its numbers.
-marks_more : (names : Term → List ℕ) (rows : List TermRow) (term : Term) (marks : List Bool) (k : ℕ) → length marks ≡ k → Marks names rows marks →
-    all_of (λ n. ltb n k) (names term) ≡ true → Marks names (rows ++ (record { term = term } ∷ [])) (stores (names term) true marks)
+marks_more : (names : Term → List ℕ) (rows : List TermRow) (term : Term) (marks : List Bool) (k : ℕ) → length marks ≡ k → Marking names rows marks →
+    all_of (λ n. ltb n k) (names term) ≡ true → Marking names (rows ++ (record { term = term } ∷ [])) (stores (names term) true marks)
 marks_more names rows term marks k whole marked within n = go (contains n (names term)) refl
   where
     appended : any_of (λ row. contains n (names row.term)) (rows ++ (record { term = term } ∷ [])) ≡ (any_of (λ row. contains n (names row.term)) rows || contains n (names term))
@@ -80,24 +77,24 @@ marks_more names rows term marks k whole marked within n = go (contains n (names
         stored_there (names term) true n marks false below there ∙ sym (appended ∙ rw there (or-true (any_of (λ row. contains n (names row.term)) rows)))
     go false none = stored_other (names term) true n marks false none ∙ marked n ∙ sym (appended ∙ rw none (or-false (any_of (λ row. contains n (names row.term)) rows)))
 
-pub marked_more : (rows : List TermRow) (term : Term) (used bound : List Bool) → Marked rows used bound → Within term →
-    Marked (rows ++ (record { term = term } ∷ [])) (stores (children term) true used) (stores (binds term) true bound)
-marked_more rows term used bound marked within =
+pub marked_more : (rows : List TermRow) (term : Term) (marks : Marks) → Marked rows marks → Within term →
+    Marked (rows ++ (record { term = term } ∷ [])) (record { used = stores (children term) true marks.used; bound = stores (binds term) true marks.bound })
+marked_more rows term marks marked within =
     record {
-      rows_whole = length_stores (children term) true used ∙ marked.rows_whole;
-      params_whole = length_stores (binds term) true bound ∙ marked.params_whole;
-      children_marked = marks_more children rows term used 256 marked.rows_whole marked.children_marked within.children_within;
-      binders_marked = marks_more binds rows term bound 64 marked.params_whole marked.binders_marked within.binder_within;
+      rows_whole = length_stores (children term) true marks.used ∙ marked.rows_whole;
+      params_whole = length_stores (binds term) true marks.bound ∙ marked.params_whole;
+      children_marked = marks_more children rows term marks.used 256 marked.rows_whole marked.children_marked within.children_within;
+      binders_marked = marks_more binds rows term marks.bound 64 marked.params_whole marked.binders_marked within.binder_within;
     }
 
 -- Before the first row nothing is marked.
-pub marked_none : (used bound : List Bool) → used ≡ replicate 256 false → bound ≡ replicate 64 false → Marked [] used bound
-marked_none used bound e f =
+pub marked_none : Marked [] (record { used = replicate 256 false; bound = replicate 64 false })
+marked_none =
     record {
-      rows_whole = ap length e;
-      params_whole = ap length f;
-      children_marked = λ n. ap (λ (marks : List Bool). is_marked marks n) e ∙ repeated 256 n false;
-      binders_marked = λ n. ap (λ (marks : List Bool). is_marked marks n) f ∙ repeated 64 n false;
+      rows_whole = refl;
+      params_whole = refl;
+      children_marked = λ n. repeated 256 n false;
+      binders_marked = λ n. repeated 64 n false;
     }
 
 -- There are marks for the numbers of a row that was accepted.
@@ -122,14 +119,10 @@ passed_within m own term few passed =
       binder_within = all_below_more (length m.params) 64 few (binds term) (bound_named term _ passed.declared);
     }
 
--- What the marks say of a term row is what the rows say.
-pub free_by_marks : (m : Machine) (term : Term) (u b : List Bool) (free free' : Bool) → Marked m.terms u b →
-    free ≡ (not (any_of (is_marked u) (children term)) && not (twice (children term))) → free' ≡ not (any_of (is_marked b) (binds term)) → Free m term free free'
-free_by_marks m term u b free free' marked seven eight =
-    record {
-      seven = seven ∙ ap (λ (found : Bool). not found && not (twice (children term))) (any_same (is_marked u) (used m.terms) marked.children_marked (children term));
-      eight = eight ∙ ap not (any_same (is_marked b) (bound m.terms) marked.binders_marked (binds term));
-    }
+-- A test of the marks tells what the rows tell.
+pub marks_tell : (names : Term → List ℕ) (rows : List TermRow) (marks : List Bool) → Marking names rows marks → {finds : ℕ → Bool → Type 0} → Tells finds (is_marked marks) →
+    Tells finds (λ n. any_of (λ row. contains n (names row.term)) rows)
+marks_tell names rows marks marked tells n found asked = tells n found asked ∙ marked n
 
 -- The first and the second of numbers that are all below one.
 module _ (k : ℕ) {l : List ℕ} (all : all_of (λ n. ltb n k) l ≡ true) where

@@ -3,7 +3,8 @@ use Prim.Native.Nat.{ℕ, ◌≤◌, ◌<◌}
 use native.Mathlib.Omega.{arith}
 use mathlib.Core.Bool.{Bool, true, false, not, ◌&&◌}
 use mathlib.Core.List.{List, [], ◌∷◌}
-use mathlib.Core.Path.{◌≡◌, refl, sym, ◌∙◌}
+use mathlib.Core.Path.{◌≡◌, refl, sym, ap, ◌∙◌}
+use Rattle.std.proofs.Common.{Result, Err}
 use lib.Dec.{eqb, ltb}
 use lib.ListN.{length}
 use borrow.Author.Tests.{eq-eqb, ne_eqb, lt-ltb, le-ltb}
@@ -12,6 +13,9 @@ use Rattle.model.specs.Machine.{Machine, children, named, binds, parts, used, bo
 use Rattle.model.specs.declared.TypeForm.{TypeForm}
 use Rattle.model.specs.declared.Param.{Param}
 use Rattle.model.specs.declared.Term.{Term}
+use Rattle.checks.specs.declared.refusal.Refusal.{Refusal}
+use Rattle.checks.specs.declared.refusal.Refusal.TheVariants.{NoForm, NotNext, ListFull, TypeUndeclared, ParameterUndeclared, ChildNotBelow, ChildUsed, ParameterBound, NoTermRow, CodeTooHigh}
+use Rattle.checks.specs.Refused.{refusal_number, number_of}
 
 pub fails : (n : ℕ) (holds : Bool) (rest : List (ℕ × Bool)) → holds ≡ false → first_failing ((n, holds) ∷ rest) ≡ n
 unfolding first_failing
@@ -32,6 +36,23 @@ unfolding first_failing
 two_hold true true k rest is h = refl
 two_hold true false k rest is h = let z : ⊥ = omega arith in absurd z
 two_hold false b k rest is h = let z : ⊥ = omega arith in absurd z
+
+-- No refusal has the number of what is accepted.
+pub refusal_some : (refusal : Refusal) → refusal_number refusal ≡ 0 → ⊥
+refusal_some NoForm e = omega arith
+refusal_some NotNext e = omega arith
+refusal_some ListFull e = omega arith
+refusal_some TypeUndeclared e = omega arith
+refusal_some ParameterUndeclared e = omega arith
+refusal_some ChildNotBelow e = omega arith
+refusal_some ChildUsed e = omega arith
+refusal_some ParameterBound e = omega arith
+refusal_some NoTermRow e = omega arith
+refusal_some CodeTooHigh e = omega arith
+
+-- `?` hands on the refusal that it found.
+pub passed_on : {T : Type 0} (result : Result T Refusal) (refusal : Refusal) → result ≡ Err refusal → number_of result ≡ refusal_number refusal
+passed_on result refusal e = ap number_of e
 
 -- Checks 2 and 3.
 module _ (own n limit : ℕ) where

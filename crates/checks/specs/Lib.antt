@@ -1,4 +1,5 @@
 pub mod Children
-pub mod Sought
 pub mod Standing
 pub mod Marks
+pub mod Refused
+pub mod Taken

@@ -4,6 +4,7 @@ use Rattle.model.specs.Lists.{any_of, all_of, contains}
 use Rattle.model.specs.Machine.{children, binds}
 use Rattle.model.specs.declared.Term.{Term}
 use Rattle.model.specs.declared.TermRow.{TermRow}
+use Rattle.checks.specs.declared.marks.Marks.{Marks}
 
 -- A number past the marks is not marked.
 abbrev pub is_marked : List Bool → ℕ → Bool
@@ -15,15 +16,15 @@ stores [] a l = l
 stores (c ∷ cs) a l = stores cs a (set l c a)
 
 -- Exactly the numbers that the rows name are marked.
-abbrev pub Marks : (Term → List ℕ) → List TermRow → List Bool → Type 0
-Marks names rows marks = (n : ℕ) → is_marked marks n ≡ any_of (λ row. contains n (names row.term)) rows
+abbrev pub Marking : (Term → List ℕ) → List TermRow → List Bool → Type 0
+Marking names rows marks = (n : ℕ) → is_marked marks n ≡ any_of (λ row. contains n (names row.term)) rows
 
 -- The rows that are some row's child, and the parameters that some LAM binds.
-pub record Marked (rows : List TermRow) (used bound : List Bool) : Type 0 where
-  pub rows_whole : length used ≡ 256
-  pub params_whole : length bound ≡ 64
-  pub children_marked : Marks children rows used
-  pub binders_marked : Marks binds rows bound
+pub record Marked (rows : List TermRow) (marks : Marks) : Type 0 where
+  pub rows_whole : length marks.used ≡ 256
+  pub params_whole : length marks.bound ≡ 64
+  pub children_marked : Marking children rows marks.used
+  pub binders_marked : Marking binds rows marks.bound
 
 -- There is a mark for each number that the row names.
 pub record Within (term : Term) : Type 0 where

@@ -1,11 +1,11 @@
 // What one term row names.
-ghost use Rattle.std.specs.Prelude.{◌≡◌, ℕ, ltb};
-ghost use Rattle.model.specs.Lists.{all_of, contains};
-ghost use Rattle.model.specs.Machine.{children, named, binds};
+ghost use Rattle.std.specs.Prelude.{◌≡◌, ℕ, Bool, not, ◌&&◌, ltb};
+ghost use Rattle.model.specs.Lists.{any_of, all_of, contains};
+ghost use Rattle.model.specs.Machine.{children, named, binds, twice};
 ghost use Rattle.checks.specs.Children.{listed};
-ghost use Rattle.checks.specs.Sought.{named_by};
+ghost use Rattle.checks.specs.Taken.{Tells};
 
-use model::{Term, TermRow};
+use model::Term;
 
 // A row has at most two children.
 #[derive(Clone, Copy)]
@@ -21,58 +21,27 @@ pub fn children_of(term: Term) -> Children
 {
     match term {
         Term::Lam(_, body) => Children::One(body),
-        Term::App(function, argument) => Children::Two(function, argument),
-        Term::Op(_, left, right) => Children::Two(left, right),
-        Term::Var(_) => Children::Nothing,
-        Term::Num(_) => Children::Nothing,
-        Term::Enc(_, _) => Children::Nothing,
+        Term::App(first, second) | Term::Op(_, first, second) => Children::Two(first, second),
+        _ => Children::Nothing,
     }
 }
 
-// What a row may name: a child, or the parameter that it binds.
-#[derive(Clone, Copy)]
-pub enum Sought {
-    Child(u16),
-    Binder(u16),
-}
-
-// Whether a row names what is sought.
-pub fn names(row: TermRow, sought: Sought) -> bool
-    ensures { result ≡ named_by sought row }
-{
-    let term = row.term;
-    match sought {
-        Sought::Child(child) => has_child(term, child),
-        Sought::Binder(p) => is_binder(term, p),
-    }
-}
-
-fn has_child(term: Term, child: u16) -> bool
+// Whether a row is one of the children.
+pub fn has_child(term: Term, child: u16) -> bool
     ensures { result ≡ contains child (children term) }
 {
     match children_of(term) {
         Children::Nothing => false,
         Children::One(only) => child == only,
-        Children::Two(first, second) => {
-            if child == first {
-                return true;
-            }
-            child == second
-        }
+        Children::Two(first, second) => child == first || child == second,
     }
 }
 
-fn is_binder(term: Term, p: u16) -> bool
+// Whether the term is the LAM of a parameter.
+pub fn is_binder(term: Term, p: u16) -> bool
     ensures { result ≡ contains p (binds term) }
 {
-    match term {
-        Term::Lam(own, _) => p == own,
-        Term::App(_, _) => false,
-        Term::Op(_, _, _) => false,
-        Term::Var(_) => false,
-        Term::Num(_) => false,
-        Term::Enc(_, _) => false,
-    }
+    matches!(term, Term::Lam(own, _) if p == own)
 }
 
 // Check 5: whether the parameter that the term names is one of those declared.
@@ -80,12 +49,8 @@ pub fn parameter_declared(declared: usize, term: Term) -> bool
     ensures { result ≡ all_of (λ p. ltb p declared) (named term) }
 {
     match term {
-        Term::Lam(p, _) => (p as usize) < declared,
-        Term::App(_, _) => true,
-        Term::Op(_, _, _) => true,
-        Term::Var(p) => (p as usize) < declared,
-        Term::Num(_) => true,
-        Term::Enc(_, _) => true,
+        Term::Lam(p, _) | Term::Var(p) => (p as usize) < declared,
+        _ => true,
     }
 }
 
@@ -96,11 +61,29 @@ pub fn children_below(own: u16, term: Term) -> bool
     match children_of(term) {
         Children::Nothing => true,
         Children::One(only) => only < own,
-        Children::Two(first, second) => {
-            if first < own {
-                return second < own;
-            }
-            false
-        }
+        Children::Two(first, second) => first < own && second < own,
+    }
+}
+
+// Check 7: whether no child is used, as a test of the rows tells, and no row is named as both children.
+pub fn children_free<F: Fn(u16) -> bool>(term: Term, used: F) -> bool
+    requires { F.IsAlwaysCallable used }
+    ensures { (test : ℕ → Bool) → Tells (F.post used) test → result ≡ (not (any_of test (children term)) && not (twice (children term))) }
+{
+    match children_of(term) {
+        Children::Nothing => true,
+        Children::One(only) => !used(only),
+        Children::Two(first, second) => first != second && !used(first) && !used(second),
+    }
+}
+
+// Check 8: whether the parameter of a LAM is not bound, as a test of the parameters tells.
+pub fn binder_free<F: Fn(u16) -> bool>(term: Term, bound: F) -> bool
+    requires { F.IsAlwaysCallable bound }
+    ensures { (test : ℕ → Bool) → Tells (F.post bound) test → result ≡ not (any_of test (binds term)) }
+{
+    match term {
+        Term::Lam(p, _) => !bound(p),
+        _ => true,
     }
 }

@@ -38,11 +38,7 @@ fn with_binder(set: u64, term: Term) -> u64
 {
     match term {
         Term::Lam(p, _) => insert(set, p),
-        Term::App(_, _) => set,
-        Term::Op(_, _, _) => set,
-        Term::Var(_) => set,
-        Term::Num(_) => set,
-        Term::Enc(_, _) => set,
+        _ => set,
     }
 }
 
@@ -51,12 +47,8 @@ fn reads_within(set: u64, term: Term) -> bool
     ensures { result ≡ all_of (member set) (reads term) }
 {
     match term {
-        Term::Lam(_, _) => true,
-        Term::App(_, _) => true,
-        Term::Op(_, _, _) => true,
         Term::Var(p) => holds(set, p),
-        Term::Num(_) => true,
-        Term::Enc(_, _) => true,
+        _ => true,
     }
 }
 
@@ -64,14 +56,9 @@ fn reads_within(set: u64, term: Term) -> bool
 fn binders(table: Table) -> u64
     ensures { (p : ℕ) → p < 64 → member result p ≡ bound (lists table).terms p }
 {
-    let rows = table.term_rows();
     let mut set: u64 = 0;
-    let mut i: usize = 0;
-    while i < rows {
-        let row = table.terms[i];
-        let term = row.term;
-        set = with_binder(set, term);
-        i += 1;
+    for i in 0..table.term_rows() {
+        set = with_binder(set, table.terms[i].term);
     }
     set
 }
@@ -82,33 +69,24 @@ fn is_scoped(table: Table) -> bool
     requires { WellFormed (lists table) × (0 < length (lists table).terms) }
     ensures { DecidesTree (lists table) result }
 {
-    let mut reached = [0u8; Table::TERMS];
-    let mut scope = [0u64; Table::TERMS];
-    let mut i = table.term_rows();
-    reached[i - 1] = 1;
-    while 0 < i {
-        i -= 1;
-        if reached[i] == 0 {
+    let rows = table.term_rows();
+    let mut scopes = [None; Table::TERMS];
+    scopes[rows - 1] = Some(0u64);
+    for i in (0..rows).rev() {
+        let term = table.terms[i].term;
+        let Some(scope) = scopes[i] else {
+            return false;
+        };
+        if !reads_within(scope, term) {
             return false;
         }
-        let row = table.terms[i];
-        let term = row.term;
-        let here = scope[i];
-        if !reads_within(here, term) {
-            return false;
-        }
-        let inner = with_binder(here, term);
+        let inner = with_binder(scope, term);
         match children_of(term) {
             Children::Nothing => {}
-            Children::One(only) => {
-                reached[only as usize] = 1;
-                scope[only as usize] = inner;
-            }
+            Children::One(only) => scopes[only as usize] = Some(inner),
             Children::Two(first, second) => {
-                reached[first as usize] = 1;
-                reached[second as usize] = 1;
-                scope[first as usize] = inner;
-                scope[second as usize] = inner;
+                scopes[first as usize] = Some(inner);
+                scopes[second as usize] = Some(inner);
             }
         }
     }

@@ -1,4 +1,4 @@
-// Sets of numbers below 64, as the bits of a number.
+// Sets of numbers below 64, as the bits of a number: the library's sets are on the heap, which no crate below the programs has.
 ghost use Rattle.std.specs.Prelude.{◌≡◌, ◌||◌, ℕ, ◌<◌, eqb};
 ghost use Rattle.closed.specs.Members.{member};
 ghost use Rattle.closed.specs.Decides.{DecidesAll};
@@ -13,19 +13,17 @@ pub fn insert(set: u64, p: u16) -> u64
 pub fn holds(set: u64, p: u16) -> bool
     ensures { result ≡ member set p }
 {
-    if p < 64 { (set >> p) % 2 == 1 } else { false }
+    p < 64 && (set >> p) % 2 == 1
 }
 
-// Whether the set has every number below the count.
+// Whether the set has every number below the count. No `all`: std's code cannot be linked, and `every_list_answered` links all that infer reaches.
 pub fn holds_all(set: u64, count: u16) -> bool
     ensures { DecidesAll (member set) count result }
 {
-    let mut p: u16 = 0;
-    while p < count {
+    for p in 0..count {
         if !holds(set, p) {
             return false;
         }
-        p += 1;
     }
     true
 }

@@ -1,4 +1,4 @@
-// A thin layer over the table's by-value calls: each is lent the table, and changes it where its owner holds it.
+// A thin layer over the table's by-value calls, which document 01 names: each is lent the table, and changes it where its owner holds it.
 #![tactic(auto)]
 
 ghost use Rattle.std.specs.Prelude.{◌≡◌};

@@ -6,9 +6,8 @@ use mathlib.Core.List.{List}
 use mathlib.Core.Path.{◌≡◌, refl}
 use lib.Dec.{eqb}
 use lib.ListN.{length}
+use Rattle.std.specs.Prelude.{Option, Some, None}
 use Rattle.model.specs.Line.{fields, given, choose, exactly, int_line, any_line, arrow_line, param_line, lam_line, app_line, op_line, var_line, num_line, enc_line, type_line, leaf_line, term_line, line_of}
-use Rattle.model.specs.declared.Field.{Field}
-use Rattle.model.specs.declared.Field.TheVariants.{Value, NoValue}
 use Rattle.model.specs.declared.TypeForm.{TypeForm}
 use Rattle.model.specs.declared.TypeForm.TheVariants.{Int, Any, Arrow}
 use Rattle.model.specs.declared.Param.{Param}
@@ -51,10 +50,10 @@ module _ (names : List (List ℕ)) where
   chosen true x y h k = h
   chosen false x y h k = k
 
-  of_value : (f : Field) (rest : ℕ → Line) → ((n : ℕ) → f ≡ Value n → LineCodes (rest n)) → LineCodes (given f rest)
+  of_value : (f : Option ℕ) (rest : ℕ → Line) → ((n : ℕ) → f ≡ Some n → LineCodes (rest n)) → LineCodes (given f rest)
   unfolding given
-  of_value (Value n) rest h = h n refl
-  of_value NoValue rest h = tt
+  of_value (Some n) rest h = h n refl
+  of_value None rest h = tt
 
   module _ (s : List ℕ) where
     whole_line : (n : ℕ) (line : Line) → LineCodes line → LineCodes (exactly n s line)

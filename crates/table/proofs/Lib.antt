@@ -1,7 +1,7 @@
 pub mod Counts
 pub mod Names
 pub mod Entries
-pub mod Scan
+pub mod Rows
 pub mod Stored
 pub mod Codes
 pub mod WellFormed

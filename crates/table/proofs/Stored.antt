@@ -2,38 +2,29 @@
 use Prim.Native.Nat.{ℕ, ◌+◌, ◌-◌, ◌≤◌, ◌<◌}
 use native.Mathlib.Numerals.{add-one}
 use native.Mathlib.Omega.{arith}
-use mathlib.Core.Bool.{Bool, not, ◌&&◌}
+use mathlib.Core.Bool.{Bool}
 use mathlib.Core.List.{List, [], ◌∷◌, ◌++◌}
-use mathlib.Core.Path.{◌≡◌, refl, sym, ◌∙◌}
+use mathlib.Core.Path.{◌≡◌, refl}
 use lib.Dec.{eqb, ltb}
 use lib.ListN.{length, take, set, get_or, length-take}
 use lib.Seq.{take-suc-set, take-set-lt, take-take, get_or-take}
 use borrow.Author.Tests.{ne_eqb, lt-ltb, le-ltb, eqb-true, ltb-true}
 use Rattle.scheme.specs.Schemes.{words}
-use Rattle.model.specs.Lists.{any_of}
-use Rattle.model.specs.Machine.{Machine, children, binds, used, bound, twice, no_param, with_qualifier, settled, first_failing, type_refusal, param_refusal, term_refusal, entered, redeclared, taken_back}
-use Rattle.model.specs.declared.TypeForm.{TypeForm}
-use Rattle.model.specs.declared.TypeRow.{TypeRow}
-use Rattle.model.specs.declared.Param.{Param}
+use Rattle.model.specs.Machine.{Machine, Change, no_param, with_qualifier, settled, first_failing, type_refusal, param_refusal, term_refusal, entered, redeclared, taken_back}
 use Rattle.model.specs.declared.Term.{Term}
-use Rattle.model.specs.declared.TermRow.{TermRow}
+use Rattle.model.specs.declared.Line.{Line}
 use Rattle.model.specs.declared.Line.TheVariants.{TypeLine, ParamLine, TermLine, NoForm}
 use Rattle.model.proofs.Checks.{passed}
-use Rattle.checks.specs.Standing.{Free}
+use Rattle.checks.specs.Refused.{refusal_number}
+use Rattle.checks.specs.declared.refusal.Refusal.{Refusal}
+use Rattle.checks.proofs.Refusals.{refusal_some}
 use Rattle.table.specs.Lists.{lists, change}
+use Rattle.table.specs.Stored.{HasRoom, with_params, with_terms, stored}
+use Rattle.table.proofs.Counts.{Owned, types_whole, params_whole, terms_whole}
 use Rattle.table.specs.declared.Table.{Table}
 use Rattle.table.specs.declared.Answered.{Answered}
 
--- A table with one array and its count changed, and an accepted call's answer.
-abbrev pub with_types : Table → List TypeRow → ℕ → Table
-with_types t types n = record { types = types; params = t.params; terms = t.terms; typecount = n; paramcount = t.paramcount; termcount = t.termcount; schemes = t.schemes }
-
-abbrev pub with_params : Table → List Param → ℕ → Table
-with_params t params n = record { types = t.types; params = params; terms = t.terms; typecount = t.typecount; paramcount = n; termcount = t.termcount; schemes = t.schemes }
-
-abbrev pub with_terms : Table → List TermRow → ℕ → Table
-with_terms t terms n = record { types = t.types; params = t.params; terms = terms; typecount = t.typecount; paramcount = t.paramcount; termcount = n; schemes = t.schemes }
-
+-- An accepted call's answer.
 abbrev pub accepting : Table → Answered
 accepting t = record { table = t; number = 0 }
 
@@ -41,6 +32,10 @@ accepting t = record { table = t; number = 0 }
 pub refused : (t : Table) (n k : ℕ) (after : Machine) → n ≡ k → (n ≡ 0 → ⊥) → change (record { table = t; number = n }) ≡ settled (lists t) k after
 unfolding settled
 refused t n k after e h = simp (← e, ne_eqb n 0 h)
+
+-- What is said of an answer is said of the one that a call makes of its parts.
+pub returned : (r known : Answered) (t : Table) (c : Change) → r ≡ known → (change known ≡ c) × (known.table.schemes ≡ t.schemes) → (change r ≡ c) × (r.table.schemes ≡ t.schemes)
+returned r known t c e said = rw e said
 
 -- An accepted one leaves what its definition says.
 accepted : (m after : Machine) (k : ℕ) → k ≡ 0 → record { number = 0; machine = after } ≡ settled m k after
@@ -62,53 +57,54 @@ appended l count own limit a whole e h =
     let within : own < length l = omega arith in
     rw (add-one, take-suc-set l own a within, same)
 
-module _ (t : Table) (own number : ℕ) (holds : number ≡ 0) where
-  module _ (form : TypeForm) (is : number ≡ type_refusal (lists t) own form) where
-    pub type_room : (own ≡ length (lists t).types) × (own < 64)
-    unfolding type_refusal
-    type_room = room own _ 64 _ (sym is ∙ holds)
+-- The arrays have their lengths.
+pub record Whole (t : Table) : Type 0 where
+  pub type_rows : length t.types ≡ 64
+  pub parameters : length t.params ≡ 64
+  pub term_rows : length t.terms ≡ 256
 
-    pub type_stored : length t.types ≡ 64 →
-        change (accepting (with_types t (set t.types own (record { form = form })) (own + 1))) ≡ entered (lists t) (TypeLine own form)
-    unfolding entered lists
-    type_stored whole =
-        rw (appended t.types t.typecount own 64 (record { form = form }) whole type_room.0 type_room.1)
-        (accepted _ _ _ (sym is ∙ holds))
+pub owned_whole : (t : Table) → Owned t → Whole t
+owned_whole t owned = record { type_rows = types_whole t owned; parameters = params_whole t owned; term_rows = terms_whole t owned }
 
-  module _ (param : Param) (is : number ≡ param_refusal (lists t) own param) where
-    pub param_room : (own ≡ length (lists t).params) × (own < 64)
-    unfolding param_refusal
-    param_room = room own _ 64 _ (sym is ∙ holds)
+-- The number of a term row that is accepted is the next, and has room.
+pub term_room : (m : Machine) (own : ℕ) (term : Term) → term_refusal m own term ≡ 0 → (own ≡ length m.terms) × (own < 256)
+unfolding term_refusal
+term_room m own term e = room own _ 256 _ e
 
-    pub param_stored : length t.params ≡ 64 →
-        change (accepting (with_params t (set t.params own param) (own + 1))) ≡ entered (lists t) (ParamLine own param)
-    unfolding entered lists
-    param_stored whole =
-        rw (appended t.params t.paramcount own 64 param whole param_room.0 param_room.1)
-        (accepted _ _ _ (sym is ∙ holds))
+pub fits_accepted : (m : Machine) (line : Line) → (entered m line).number ≡ 0 → HasRoom line
+unfolding entered settled type_refusal param_refusal
+fits_accepted m (TypeLine own form) e = (room own _ 64 _ e).1
+fits_accepted m (ParamLine own param) e = (room own _ 64 _ e).1
+fits_accepted m (TermLine own term) e = (term_room m own term e).1
+fits_accepted m NoForm e = tt
 
-  module _ (term : Term) (is : number ≡ term_refusal (lists t) own term) where
-    pub term_room : (own ≡ length (lists t).terms) × (own < 256)
-    unfolding term_refusal
-    term_room = room own _ 256 _ (sym is ∙ holds)
+-- The entry of a line that is accepted is appended to its list.
+pub entry_stored : (t : Table) → Whole t → (line : Line) → (entered (lists t) line).number ≡ 0 → change (accepting (stored t line)) ≡ entered (lists t) line
+unfolding entered settled type_refusal param_refusal lists
+entry_stored t whole (TypeLine own form) e =
+    let (next, fits) = room own _ 64 _ e in
+    rw (appended t.types t.typecount own 64 (record { form = form }) whole.type_rows next fits) (accepted _ _ _ e)
+entry_stored t whole (ParamLine own param) e =
+    let (next, fits) = room own _ 64 _ e in
+    rw (appended t.params t.paramcount own 64 param whole.parameters next fits) (accepted _ _ _ e)
+entry_stored t whole (TermLine own term) e =
+    let (next, fits) = term_room (lists t) own term e in
+    rw (appended t.terms t.termcount own 256 (record { term = term }) whole.term_rows next fits) (accepted _ _ _ e)
+entry_stored t whole NoForm e = absurd (omega (arith, e))
 
-    pub term_stored : length t.terms ≡ 256 →
-        change (accepting (with_terms t (set t.terms own (record { term = term })) (own + 1))) ≡ entered (lists t) (TermLine own term)
-    unfolding entered lists
-    term_stored whole =
-        rw (appended t.terms t.termcount own 256 (record { term = term }) whole term_room.0 term_room.1)
-        (accepted _ _ _ (sym is ∙ holds))
+pub schemes_stored : (t : Table) (line : Line) → (stored t line).schemes ≡ t.schemes
+schemes_stored t (TypeLine own form) = refl
+schemes_stored t (ParamLine own param) = refl
+schemes_stored t (TermLine own term) = refl
+schemes_stored t NoForm = refl
 
--- What a scan of the array's rows finds is what checks 7 and 8 ask.
-pub free_by_rows : (t : Table) (term : Term) (free free' : Bool) →
-    free ≡ (not (any_of (used (take t.termcount t.terms)) (children term)) && not (twice (children term))) →
-    free' ≡ not (any_of (bound (take t.termcount t.terms)) (binds term)) → Free (lists t) term free free'
-unfolding lists
-free_by_rows t term free free' seven eight = record { seven = seven; eight = eight }
-
-pub no_form : (t : Table) → change (record { table = t; number = 1 }) ≡ entered (lists t) NoForm
-unfolding entered
-no_form t = refused t 1 1 (lists t) refl (λ e. omega arith)
+-- The entry of a line that is refused leaves the table.
+pub entry_refused : (t : Table) (line : Line) (refusal : Refusal) → refusal_number refusal ≡ (entered (lists t) line).number → change (record { table = t; number = refusal_number refusal }) ≡ entered (lists t) line
+unfolding entered settled
+entry_refused t (TypeLine own form) refusal e = refused t _ (type_refusal (lists t) own form) _ e (refusal_some refusal)
+entry_refused t (ParamLine own param) refusal e = refused t _ (param_refusal (lists t) own param) _ e (refusal_some refusal)
+entry_refused t (TermLine own term) refusal e = refused t _ (term_refusal (lists t) own term) _ e (refusal_some refusal)
+entry_refused t NoForm refusal e = refused t _ 1 (lists t) e (refusal_some refusal)
 
 module _ (t : Table) (p code n : ℕ) (count : n ≡ length (lists t).params) where
   pub not_declared : n ≤ p → change (record { table = t; number = 5 }) ≡ redeclared (lists t) p code

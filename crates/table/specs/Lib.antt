@@ -1,3 +1,4 @@
 pub mod Lists
 pub mod Called
 pub mod Ready
+pub mod Stored

@@ -1,22 +1,25 @@
 // The table of type rows, parameters and term rows, and the calls that change it, by value.
 #![tactic(auto)]
 
-ghost use Rattle.std.specs.Prelude.{◌≡◌, not, ◌&&◌, ◌≤◌, min, length, take};
-ghost use Rattle.model.specs.Lists.{any_of};
-ghost use Rattle.model.specs.Machine.{fresh_machine, children, binds, used, bound, twice, entered, added, redeclared, taken_back};
+ghost use Rattle.std.specs.Prelude.{◌≡◌, ◌≤◌, min, length};
+ghost use Rattle.model.specs.Machine.{fresh_machine, used, bound, entered, added, redeclared, taken_back};
 ghost use Rattle.scheme.specs.Six.{six_table};
 ghost use Rattle.schemes.specs.Schemes.{table_in, Kept};
 ghost use Rattle.model.specs.SchemeFile.{opened};
+ghost use Rattle.checks.specs.Standing.{Counted};
 ghost use Rattle.checks.specs.Marks.{Marked};
-ghost use Rattle.checks.specs.Sought.{named_by};
+ghost use Rattle.checks.specs.Refused.{refusal_number, number_of};
 ghost use Rattle.table.specs.Lists.{lists, change};
+ghost use Rattle.table.specs.Stored.{HasRoom, stored};
 
-use checks::term::{Children, Sought, children_of, names};
-use checks::{param_refusal, term_refusal, type_refusal};
+use checks::marks::Marks;
+use checks::term::{has_child, is_binder};
+use checks::{Counts, Refusal, first_refusal};
 use model::{Line, Param, Term, TermRow, TypeForm, TypeRow};
 use schemes::Schemes;
 
-// The entries that stand are the first ones of each array, as many as its count says; they are read by the scheme table.
+// The entries that stand are the first ones of each array, as many as its count says; they are read by the scheme table. Document 01 names
+// this form: "one record that holds its three arrays and their fill counts".
 #[derive(Clone, Copy)]
 pub struct Table {
     pub types: [TypeRow; Table::TYPES],
@@ -28,11 +31,30 @@ pub struct Table {
     pub schemes: Schemes,
 }
 
-// What a call hands back: the table, and the number of the refusal, or 0.
+// What a call hands back: the table, and the number of the refusal, or 0. Document 01 names this form: "hand back table with answer number".
 #[derive(Clone, Copy)]
 pub struct Answered {
     pub table: Table,
     pub number: u16,
+}
+
+impl Answered {
+    // A call that is accepted.
+    fn accepted(table: Table) -> Answered
+        ensures { result ≡ record { table = table; number = 0 } }
+    {
+        Answered { table, number: 0 }
+    }
+
+    // A call that is refused, and leaves the table as it stood.
+    fn refused(table: Table, refusal: Refusal) -> Answered
+        ensures { result ≡ record { table = table; number = refusal_number refusal } }
+    {
+        Answered {
+            table,
+            number: refusal.into(),
+        }
+    }
 }
 
 impl Table {
@@ -107,115 +129,75 @@ impl Table {
         filled(self.termcount, Table::TERMS)
     }
 
-    // The number of the first check that refuses a line, or 0, by the marks of the rows that stand.
-    pub fn refusal(
-        self,
-        line: Line,
-        used: &[bool; Table::TERMS],
-        bound: &[bool; Table::PARAMS],
-    ) -> u16
-        ensures { Marked (lists self).terms used.now bound.now → result ≡ (entered (lists self) line).number }
+    // How many entries of each list stand.
+    fn counts(self) -> Counts
+        ensures { Counted (lists self) result }
     {
-        checks::marks::refusal(
+        Counts {
+            types: self.type_rows(),
+            params: self.parameters(),
+            terms: self.term_rows(),
+        }
+    }
+
+    // The first check that refuses a line, by the marks of the rows that stand.
+    pub fn refusal(self, line: Line, marks: &Marks) -> Result<(), Refusal>
+        ensures { Marked (lists self).terms marks.now → number_of result ≡ (entered (lists self) line).number }
+    {
+        marks.refusal(line, self.counts())
+    }
+
+    // The same by a scan of the rows.
+    fn refusal_by_rows(self, line: Line) -> Result<(), Refusal>
+        ensures { number_of result ≡ (entered (lists self) line).number }
+    {
+        let rows = &self.terms[..self.term_rows()];
+        first_refusal(
             line,
-            self.type_rows(),
-            self.parameters(),
-            self.term_rows(),
-            used,
-            bound,
+            self.counts(),
+            |child| is_used(rows, child),
+            |p| is_bound(rows, p),
         )
     }
 
-    // Stores a type row behind those that stand, unless a check fails.
-    fn enter_type(mut self, own: u16, form: TypeForm) -> Answered
-        ensures { (change result ≡ entered (lists self) (Line.TypeLine own form)) × (result.table.schemes ≡ self.schemes) }
+    // Stores the entry of a line under its own number, behind those that stand.
+    pub fn store(&mut self, line: Line)
+        requires { HasRoom line }
+        ensures { self.new ≡ stored self.old line }
     {
-        let number = type_refusal(own, form, self.type_rows());
-        if number != 0 {
-            return Answered {
-                table: self,
-                number,
-            };
-        }
-        let at = own as usize;
-        self.types[at] = TypeRow { form };
-        self.typecount = at + 1;
-        Answered {
-            table: self,
-            number: 0,
+        match line {
+            Line::TypeLine(own, form) => {
+                self.types[own as usize] = TypeRow { form };
+                self.typecount = own as usize + 1;
+            }
+            Line::ParamLine(own, param) => {
+                self.params[own as usize] = param;
+                self.paramcount = own as usize + 1;
+            }
+            Line::TermLine(own, term) => {
+                self.terms[own as usize] = TermRow { term };
+                self.termcount = own as usize + 1;
+            }
+            Line::NoForm => {}
         }
     }
 
-    // Stores a parameter behind those that stand, unless a check fails.
-    fn enter_param(mut self, own: u16, param: Param) -> Answered
-        ensures { (change result ≡ entered (lists self) (Line.ParamLine own param)) × (result.table.schemes ≡ self.schemes) }
-    {
-        let number = param_refusal(own, param, self.type_rows(), self.parameters());
-        if number != 0 {
-            return Answered {
-                table: self,
-                number,
-            };
-        }
-        let at = own as usize;
-        self.params[at] = param;
-        self.paramcount = at + 1;
-        Answered {
-            table: self,
-            number: 0,
-        }
-    }
-
-    // Stores a term row behind those that stand, unless a check fails.
-    fn enter_term(mut self, own: u16, term: Term) -> Answered
-        ensures { (change result ≡ entered (lists self) (Line.TermLine own term)) × (result.table.schemes ≡ self.schemes) }
-    {
-        let terms = self.terms;
-        let count = self.termcount;
-        let number = term_refusal(
-            own,
-            term,
-            self.parameters(),
-            self.term_rows(),
-            children_free(terms, count, term),
-            binder_free(terms, count, term),
-        );
-        if number != 0 {
-            return Answered {
-                table: self,
-                number,
-            };
-        }
-        let at = own as usize;
-        self.terms[at] = TermRow { term };
-        self.termcount = at + 1;
-        Answered {
-            table: self,
-            number: 0,
-        }
-    }
-
-    // Adds the entry that a line's bytes spell, or refuses it.
+    // Adds the entry that a line's bytes spell, or refuses it. Document 01 has `mut self` here and in the next calls.
     pub fn add(mut self, line: &[u8]) -> Answered
         ensures { (change result ≡ added (lists self) line.now) × (result.table.schemes ≡ self.schemes) }
     {
-        let names = self.schemes.names;
-        self.enter(line::read(schemes::front(&names, self.schemes.size), line))
+        self.enter(line::read(schemes::front(&self.schemes.names, self.schemes.size), line))
     }
 
     // Adds the entry of a line, or refuses it.
     pub fn enter(mut self, line: Line) -> Answered
         ensures { (change result ≡ entered (lists self) line) × (result.table.schemes ≡ self.schemes) }
     {
-        match line {
-            Line::TypeLine(own, form) => self.enter_type(own, form),
-            Line::ParamLine(own, param) => self.enter_param(own, param),
-            Line::TermLine(own, term) => self.enter_term(own, term),
-            Line::NoForm => Answered {
-                table: self,
-                number: 1,
-            },
+        if let Err(refusal) = self.refusal_by_rows(line) {
+            return Answered::refused(self, refusal);
         }
+        self.store(line);
+        Answered::accepted(self)
     }
 
     // Replaces a parameter's qualifier.
@@ -223,26 +205,15 @@ impl Table {
         ensures { (change result ≡ redeclared (lists self) p code) × (result.table.schemes ≡ self.schemes) }
     {
         if self.parameters() <= p {
-            return Answered {
-                table: self,
-                number: 5,
-            };
+            return Answered::refused(self, Refusal::ParameterUndeclared);
         }
-        let names = self.schemes.names;
-        let words = tokens::fields::count(schemes::front(&names, self.schemes.size)) + 1;
+        let words = tokens::fields::count(schemes::front(&self.schemes.names, self.schemes.size))
+            + 1;
         if words + 64 <= code {
-            return Answered {
-                table: self,
-                number: 12,
-            };
+            return Answered::refused(self, Refusal::CodeTooHigh);
         }
-        let mut param = self.params[p];
-        param.qualifier = code as u8;
-        self.params[p] = param;
-        Answered {
-            table: self,
-            number: 0,
-        }
+        self.params[p].qualifier = code as u8;
+        Answered::accepted(self)
     }
 
     // Drops the last term row.
@@ -251,71 +222,30 @@ impl Table {
     {
         let rows = self.term_rows();
         if rows == 0 {
-            return Answered {
-                table: self,
-                number: 9,
-            };
+            return Answered::refused(self, Refusal::NoTermRow);
         }
         self.termcount = rows - 1;
-        Answered {
-            table: self,
-            number: 0,
-        }
+        Answered::accepted(self)
     }
 }
 
-// How many entries of an array a count says.
+// How many entries of an array a count says. No `min`: std's code cannot be linked, and `every_list_answered` links all that infer reaches.
 fn filled(count: usize, limit: usize) -> usize
     ensures { result ≡ min count limit }
 {
     if count <= limit { count } else { limit }
 }
 
-// Whether some of the rows that stand names what is sought.
-fn some_row(terms: [TermRow; Table::TERMS], count: usize, sought: Sought) -> bool
-    ensures { result ≡ any_of (named_by sought) (take count terms) }
+// Whether some row has the child.
+fn is_used(rows: &[TermRow], child: u16) -> bool
+    ensures { result ≡ used rows.now child }
 {
-    let rows = filled(count, Table::TERMS);
-    let mut i: usize = 0;
-    while i < rows {
-        let row = terms[i];
-        if names(row, sought) {
-            return true;
-        }
-        i += 1;
-    }
-    false
+    rows.iter().any(|row| has_child(row.term, child))
 }
 
-// Check 7: whether no child is used already, and no row is named as both children.
-fn children_free(terms: [TermRow; Table::TERMS], count: usize, term: Term) -> bool
-    ensures { result ≡ (not (any_of (used (take count terms)) (children term)) && not (twice (children term))) }
+// Whether some row is the LAM of a parameter.
+fn is_bound(rows: &[TermRow], p: u16) -> bool
+    ensures { result ≡ bound rows.now p }
 {
-    match children_of(term) {
-        Children::Nothing => true,
-        Children::One(only) => !some_row(terms, count, Sought::Child(only)),
-        Children::Two(first, second) => {
-            if first == second {
-                return false;
-            }
-            if some_row(terms, count, Sought::Child(first)) {
-                return false;
-            }
-            !some_row(terms, count, Sought::Child(second))
-        }
-    }
-}
-
-// Check 8: whether the parameter of a LAM is unbound.
-fn binder_free(terms: [TermRow; Table::TERMS], count: usize, term: Term) -> bool
-    ensures { result ≡ not (any_of (bound (take count terms)) (binds term)) }
-{
-    match term {
-        Term::Lam(p, _) => !some_row(terms, count, Sought::Binder(p)),
-        Term::App(_, _) => true,
-        Term::Op(_, _, _) => true,
-        Term::Var(_) => true,
-        Term::Num(_) => true,
-        Term::Enc(_, _) => true,
-    }
+    rows.iter().any(|row| is_binder(row.term, p))
 }

@@ -4,8 +4,8 @@ use native.Mathlib.Numerals.{add-one}
 use native.Mathlib.Omega.{arith}
 use mathlib.Core.List.{List}
 use mathlib.Core.Path.{◌≡◌, ap, sym, ◌∙◌}
-use lib.ListN.{length, get_or, take, drop, set, length-take, length-drop, drop_of_length-le}
-use lib.Seq.{sets, drop-cons}
+use lib.ListN.{length, take, drop, set, length-take, length-drop}
+use lib.Seq.{sets}
 use borrow.Author.Tests.{lt-ltb, le-ltb}
 use Rattle.scheme.specs.Six.{six_table}
 use Rattle.model.specs.Machine.{Machine, Change, fresh_machine}
@@ -14,16 +14,6 @@ use Rattle.table.specs.declared.Table.{Table}
 use Rattle.table.specs.declared.Answered.{Answered}
 use Rattle.test_table_export.specs.Script.{call_of, calls_from, answer_of, numbers_of, machine_after, sizes}
 use Rattle.test_table_export.specs.Dump.{entry_at, dumped_from, dumped}
-
--- One byte of an entry is stored.
-module _ (entries bytes whole : List ℕ) (at i : ℕ) (left : sets entries (at + i) (drop i bytes) ≡ whole) where
-  pub byte_stored : i < length bytes → sets (set entries (at + i) (get_or bytes i 0)) (at + (i + 1)) (drop (i + 1) bytes) ≡ whole
-  byte_stored h =
-      let next : at + (i + 1) ≡ suc (at + i) = omega arith in
-      rw (next, add-one i) (sym (ap (sets entries (at + i)) (drop-cons bytes i 0 h)) ∙ left)
-
-  pub bytes_stored : length bytes ≤ i → entries ≡ whole
-  bytes_stored h = ap (sets entries (at + i)) (sym (drop_of_length-le bytes h)) ∙ left
 
 -- One entry is written.
 pub entry_written : (m : Machine) (k : ℕ) (entries whole bytes after : List ℕ) → k < 384 → dumped_from m k (384 - k) entries ≡ whole → bytes ≡ entry_at m k →

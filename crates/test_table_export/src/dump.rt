@@ -15,11 +15,8 @@ pub fn dump(table: Table, entries: &mut [u8])
     if entries.len() < 3840 {
         return;
     }
-    let mut k: usize = 0;
-    while k < 384 {
-        let bytes = entry(table, k);
-        put(entries, k * 10, &bytes);
-        k += 1;
+    for k in 0..384 {
+        put(entries, k * 10, &entry(table, k));
     }
 }
 
@@ -28,11 +25,7 @@ fn put(entries: &mut [u8], at: usize, bytes: &[u8])
     requires { at + length bytes.now ≤ length entries.old }
     ensures { entries.new ≡ sets entries.old at bytes.now }
 {
-    let mut i: usize = 0;
-    while i < bytes.len() {
-        entries[at + i] = bytes[i];
-        i += 1;
-    }
+    entries[at..at + bytes.len()].copy_from_slice(bytes);
 }
 
 fn entry(table: Table, k: usize) -> [u8; 10]
@@ -52,9 +45,7 @@ fn type_entry(table: Table, t: usize) -> [u8; 10]
     ensures { result ≡ cond (ltb t (length (lists table).types)) (type_bytes (type_at (lists table) t)) blank }
 {
     if t < table.type_rows() {
-        let row = table.types[t];
-        let form = row.form;
-        return type_bytes(form);
+        return type_bytes(table.types[t].form);
     }
     [0u8; 10]
 }
@@ -63,8 +54,7 @@ fn param_entry(table: Table, p: usize) -> [u8; 10]
     ensures { result ≡ cond (ltb p (length (lists table).params)) (param_bytes (param_at (lists table) p)) blank }
 {
     if p < table.parameters() {
-        let param = table.params[p];
-        return param_bytes(param);
+        return param_bytes(table.params[p]);
     }
     [0u8; 10]
 }
@@ -73,9 +63,7 @@ fn term_entry(table: Table, i: usize) -> [u8; 10]
     ensures { result ≡ cond (ltb i (length (lists table).terms)) (term_bytes (term_at (lists table) i)) blank }
 {
     if i < table.term_rows() {
-        let row = table.terms[i];
-        let term = row.term;
-        return term_bytes(term);
+        return term_bytes(table.terms[i].term);
     }
     [0u8; 10]
 }
@@ -86,25 +74,19 @@ fn type_bytes(form: TypeForm) -> [u8; 10]
     match form {
         TypeForm::Int => [1, 0, 0, 0, 0, 0, 0, 0, 0, 0],
         TypeForm::Any => [2, 0, 0, 0, 0, 0, 0, 0, 0, 0],
-        TypeForm::Arrow(q, t, q2, t2) => [3, q, low(t), high(t), q2, low(t2), high(t2), 0, 0, 0],
+        TypeForm::Arrow(q, t, q2, t2) => {
+            let t = t.to_le_bytes();
+            let t2 = t2.to_le_bytes();
+            [3, q, t[0], t[1], q2, t2[0], t2[1], 0, 0, 0]
+        }
     }
 }
 
 fn param_bytes(param: Param) -> [u8; 10]
     ensures { result ≡ param_bytes param }
 {
-    [
-        1,
-        param.qualifier,
-        low(param.typerow),
-        high(param.typerow),
-        param.floor,
-        0,
-        0,
-        0,
-        0,
-        0,
-    ]
+    let t = param.typerow.to_le_bytes();
+    [1, param.qualifier, t[0], t[1], param.floor, 0, 0, 0, 0, 0]
 }
 
 fn term_bytes(term: Term) -> [u8; 10]
@@ -123,34 +105,13 @@ fn term_bytes(term: Term) -> [u8; 10]
 fn pair_bytes(kind: u8, code: u8, first: u16, second: u16) -> [u8; 10]
     ensures { result ≡ pair_bytes kind code first second }
 {
-    [
-        kind,
-        code,
-        low(first),
-        high(first),
-        low(second),
-        high(second),
-        0,
-        0,
-        0,
-        0,
-    ]
+    let x = first.to_le_bytes();
+    let y = second.to_le_bytes();
+    [kind, code, x[0], x[1], y[0], y[1], 0, 0, 0, 0]
 }
 
 fn number_bytes(kind: u8, code: u8, n: u32) -> [u8; 10]
     ensures { result ≡ number_bytes kind code n }
 {
     pair_bytes(kind, code, (n % 65536) as u16, (n / 65536) as u16)
-}
-
-fn low(x: u16) -> u8
-    ensures { result ≡ x % 256 }
-{
-    (x % 256) as u8
-}
-
-fn high(x: u16) -> u8
-    ensures { result ≡ x / 256 }
-{
-    (x / 256) as u8
 }

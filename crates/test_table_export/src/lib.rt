@@ -32,16 +32,13 @@ fn run(script: &[u8], numbers: &mut [u16]) -> Table
     ensures after { lists result ≡ machine_after (fresh_machine six_table) (script_calls script.now (length numbers.old)) }
     ensures returned { numbers.new ≡ sets numbers.old 0 (numbers_of (fresh_machine six_table) (script_calls script.now (length numbers.old))) }
 {
-    let calls = fewer(script.len() / 72, numbers.len());
+    let calls = (script.len() / 72).min(numbers.len());
     let mut table = Table::fresh();
-    let mut i: usize = 0;
-    while i < calls {
+    for i in 0..calls {
         let at = i * 72;
-        let end = at + 72;
-        let answered = answer(table, &script[at..end]);
+        let answered = answer(table, &script[at..at + 72]);
         numbers[i] = answered.number;
         table = answered.table;
-        i += 1;
     }
     table
 }
@@ -52,7 +49,7 @@ fn answer(table: Table, call: &[u8]) -> Answered
     ensures { change result ≡ answer_of (lists table) (call_of call.now) }
 {
     if call[0] == 0 {
-        let end = fewer(wide(call[1]), 70) + 2;
+        let end = (call[1] as usize).min(70) + 2;
         return table.add(&call[2..end]);
     }
     if call[0] == 1 {
@@ -65,18 +62,5 @@ fn four_bytes(s: &[u8], at: usize) -> usize
     requires { at + 4 ≤ length s.now }
     ensures { result ≡ four_bytes s.now at }
 {
-    wide(s[at]) + wide(s[at + 1]) * 256 + wide(s[at + 2]) * 65536 + wide(s[at + 3]) * 16777216
-}
-
-// A byte as a number of any place.
-fn wide(byte: u8) -> usize
-    ensures { (result ≡ byte) × (result < 256) }
-{
-    byte as usize
-}
-
-fn fewer(a: usize, b: usize) -> usize
-    ensures { result ≡ min a b }
-{
-    if a <= b { a } else { b }
+    u32::from_le_bytes([s[at], s[at + 1], s[at + 2], s[at + 3]]) as usize
 }

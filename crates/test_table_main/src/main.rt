@@ -16,17 +16,14 @@ fn main(rt: HostRuntime) -> io::Result<()> {
 // Prints what a call returned, and hands on the table that it left.
 fn shown(rt: &HostRuntime, answered: Answered) -> io::Result<Table> {
     let table = answered.table;
-    rt.write_all(&two_digits(answered.number as usize))?;
-    rt.write_all(&two_digits(table.type_rows()))?;
-    rt.write_all(&two_digits(table.parameters()))?;
-    rt.write_all(&two_digits(table.term_rows()))?;
-    rt.write_all(b"\n")?;
+    println!(rt;
+        " {:02} {:02} {:02} {:02}",
+        answered.number,
+        table.type_rows(),
+        table.parameters(),
+        table.term_rows()
+    )?;
     Ok(table)
-}
-
-// The last two digits of a number, after a space.
-fn two_digits(n: usize) -> [u8; 3] {
-    [32, (n / 10 % 10) as u8 + 48, (n % 10) as u8 + 48]
 }
 
 // 1: none of the forms; 2: not the next number.
@@ -35,26 +32,23 @@ fn refused_types(rt: &HostRuntime, table: Table) -> io::Result<Table> {
     shown(rt, table.add(b"T,1,INT"))
 }
 
-fn full_of_types(table: Table) -> Table {
-    let mut filled = table;
-    let mut i: usize = 0;
-    while i < 64 {
-        filled = with_type(filled, i);
-        i += 1;
+fn full_of_types(mut table: Table) -> Table {
+    for i in 0..64 {
+        table = with_type(table, i);
     }
-    filled
+    table
 }
 
 // Adds the type row i, which is below 100.
-fn with_type(table: Table, i: usize) -> Table {
-    let tens = (i / 10 % 10) as u8 + 48;
-    let ones = (i % 10) as u8 + 48;
+fn with_type(table: Table, i: u8) -> Table {
+    let tens = i / 10 % 10 + b'0';
+    let ones = i % 10 + b'0';
     if i < 10 {
-        let answered = table.add(&[b'T', b',', ones, b',', b'I', b'N', b'T']);
-        return answered.table;
+        return table.add(&[b'T', b',', ones, b',', b'I', b'N', b'T']).table;
     }
-    let answered = table.add(&[b'T', b',', tens, ones, b',', b'I', b'N', b'T']);
-    answered.table
+    table
+        .add(&[b'T', b',', tens, ones, b',', b'I', b'N', b'T'])
+        .table
 }
 
 // 3: the list is full; 4: type row not declared; 5: parameter not declared; 6: child not below own number.

@@ -1,28 +1,30 @@
 -- The turns of the loop over a text's lines. What is left of the text, added to the present table, comes to what the whole text comes to.
 use Prim.Native.Nat.{ℕ, ◌+◌, ◌-◌, ◌≤◌, ◌<◌}
 use native.Mathlib.Omega.{arith}
-use mathlib.Core.Bool.{Bool, true, false, cond}
+use mathlib.Core.Bool.{Bool, true, cond}
 use mathlib.Core.List.{List, [], ◌∷◌}
 use mathlib.Core.Path.{◌≡◌, refl, sym, ap, ap₂, subst, ◌∙◌}
 use lib.Dec.{eqb}
-use lib.ListN.{length, take, drop, set, replicate, drop_of_length-le}
+use lib.ListN.{length, take, drop, drop_of_length-le}
 use mir.Syntax.{w64}
 use mir.Val.{Fits}
 use borrow.Author.Tests.{eq-eqb, ne_eqb}
 use Rattle.scheme.specs.Schemes.{SchemeTable}
 use Rattle.schemes.specs.Schemes.{table_in, Kept}
 use Rattle.schemes.specs.declared.Schemes.{Schemes}
-use Rattle.model.specs.Machine.{Machine, Change, fresh_machine, children, binds, settled, type_refusal, param_refusal, term_refusal, entered, added}
+use Rattle.model.specs.Machine.{Machine, Change, fresh_machine, children, binds, settled, entered, added}
 use Rattle.model.specs.Text.{lines_of, loaded, stopped, load_from, load}
 use Rattle.model.specs.Line.{fields, line_of}
-use Rattle.model.specs.declared.TypeForm.{TypeForm}
-use Rattle.model.specs.declared.Param.{Param}
 use Rattle.model.specs.declared.Term.{Term}
 use Rattle.model.specs.declared.Line.{Line}
 use Rattle.model.specs.declared.Line.TheVariants.{TypeLine, ParamLine, TermLine, NoForm}
 use Rattle.checks.specs.Marks.{stores, Marked, Within}
+use Rattle.checks.specs.declared.marks.Marks.{Marks}
 use Rattle.checks.proofs.Marking.{passed_within}
 use Rattle.checks.proofs.Passed.{term_passed}
+use Rattle.checks.proofs.Refusals.{refusal_some}
+use Rattle.checks.specs.Refused.{refusal_number}
+use Rattle.checks.specs.declared.refusal.Refusal.{Refusal}
 use Rattle.table.specs.Lists.{lists, change}
 use Rattle.table.specs.Ready.{Ready}
 use Rattle.table.specs.Called.{adds}
@@ -31,7 +33,8 @@ use Rattle.table.specs.declared.Answered.{Answered}
 use Rattle.table.proofs.Follows.{fresh_ready, call_ready}
 use Rattle.table.proofs.Counts.{Owned}
 use Rattle.table.proofs.Names.{read_added}
-use Rattle.table.proofs.Stored.{with_types, with_params, with_terms, accepting, type_room, type_stored, param_room, param_stored, term_room, term_stored}
+use Rattle.table.specs.Stored.{HasRoom, stored}
+use Rattle.table.proofs.Stored.{accepting, fits_accepted, entry_stored, schemes_stored, entry_refused}
 use Rattle.lines.specs.Lines.{line_length}
 use Rattle.lines.proofs.Lines.{end_bound, end_fits, line_part}
 use Rattle.tokens.specs.Names.{Few}
@@ -40,7 +43,7 @@ use Rattle.text.specs.Loads.{Loads}
 use Rattle.text.specs.declared.Loaded.{Loaded}
 use Rattle.model.proofs.Limits.{well_formed_within}
 use Rattle.model.proofs.Numbers.{added_most}
-use Rattle.text.proofs.Filling.{Filled, none_filled, type_filled, param_filled, term_filled}
+use Rattle.text.proofs.Filling.{Filled, marks_with, none_filled, entry_filled}
 use Rattle.text.proofs.Accepted.{entries, fresh_entries, added_longer, entries_most}
 
 -- One line, and the rest.
@@ -60,14 +63,14 @@ pub record Left (T : SchemeTable) (text : List ℕ) (table : Table) (from line :
   pub counted : line ≡ entries (lists table) + 1
 
 -- The same, with the marks of the rows that stand, and the names by which the lines are read.
-pub record Filling (T : SchemeTable) (names text : List ℕ) (table : Table) (used bound : List Bool) (from line : ℕ) : Type 0 where
+pub record Filling (T : SchemeTable) (names text : List ℕ) (table : Table) (marks : Marks) (from line : ℕ) : Type 0 where
   pub left : Left T text table from line
-  pub filled : Filled table used bound
+  pub filled : Filled table marks
   pub front : names ≡ take table.schemes.size table.schemes.names
 
 -- The loop begins with an empty table, and no marks.
-pub all_left : (table : Table) (names text : List ℕ) → Owned table → Begins table names → Filling (table_in table.schemes) names text table (replicate 256 false) (replicate 64 false) 0 1
-all_left table names text owned begins =
+pub all_left : (table : Table) (names text : List ℕ) (marks : Marks) → Owned table → Begins table names → Marked [] marks → Filling (table_in table.schemes) names text table marks 0 1
+all_left table names text marks owned begins none =
     record {
       left =
           record {
@@ -75,7 +78,7 @@ all_left table names text owned begins =
             ready = fresh_ready (table_in table.schemes) begins.fresh begins.kept;
             counted = omega (arith, ap entries begins.fresh, fresh_entries (table_in table.schemes));
           };
-      filled = none_filled table (table_in table.schemes) owned begins.fresh;
+      filled = none_filled table (table_in table.schemes) marks owned begins.fresh none;
       front = begins.front;
     }
 
@@ -98,14 +101,6 @@ line_bound T text table from line left = omega (arith, left.counted, entries_mos
 
 pub line_fits : (T : SchemeTable) (text : List ℕ) (table : Table) (from line : ℕ) → Left T text table from line → Fits w64 (line + 1)
 line_fits T text table from line left = omega (arith, line_bound T text table from line left)
-
--- A refused entry leaves the machine.
-entered_refused : (m : Machine) (line : Line) → ((entered m line).number ≡ 0 → ⊥) → (entered m line).machine ≡ m
-unfolding entered settled
-entered_refused m (TypeLine i form) h = simp (ne_eqb _ 0 h)
-entered_refused m (ParamLine p param) h = simp (ne_eqb _ 0 h)
-entered_refused m (TermLine i term) h = simp (ne_eqb _ 0 h)
-entered_refused m NoForm h = refl
 
 -- One line is added.
 module _ (T : SchemeTable) (text : List ℕ) (from to : ℕ) (h : from < length text) (is : to ≡ from + line_length (drop from text)) (table : Table) (line : ℕ) (left : Left T text table from line) (r : Answered)
@@ -143,79 +138,56 @@ module _ (T : SchemeTable) (text : List ℕ) (from to : ℕ) (h : from < length 
       }
 
 -- The entry that a line is read as passes its checks, and is stored; or it is refused, and the table stays.
-module _ (T : SchemeTable) (names text : List ℕ) (from to : ℕ) (h : from < length text) (is : to ≡ from + line_length (drop from text)) (table : Table) (used bound : List Bool) (line : ℕ)
-    (filling : Filling T names text table used bound from line) (entry : Line) (read : entry ≡ line_of (fields names) (take (to - from) (drop from text)))
-    (number : ℕ) (checks : Marked (lists table).terms used bound → number ≡ (entered (lists table) entry).number) where
-  checked : number ≡ (entered (lists table) entry).number
-  checked = checks filling.filled.marked
-
+module _ (T : SchemeTable) (names text : List ℕ) (from to : ℕ) (h : from < length text) (is : to ≡ from + line_length (drop from text)) (table : Table) (marks : Marks) (line : ℕ)
+    (filling : Filling T names text table marks from line) (entry : Line) (read : entry ≡ line_of (fields names) (take (to - from) (drop from text))) where
   as_added : entered (lists table) entry ≡ added (lists table) (take (to - from) (drop from text))
   as_added = read_added table names filling.front _ entry read
 
-  pub entry_refused : (number ≡ 0 → ⊥) → Loads T text (record { table = table; number = number; line = line })
-  entry_refused e =
-      let stays : (entered (lists table) entry).machine ≡ lists table = entered_refused (lists table) entry (λ z. e (checked ∙ z)) in
-      line_refused T text from to h is table line filling.left (record { table = table; number = number })
-      (ap₂ (λ (n : ℕ) (m : Machine). record { number = n; machine = m }) checked (sym stays) ∙ as_added, refl) e
+  pub entry_stops : (refusal : Refusal) → (Marked (lists table).terms marks → refusal_number refusal ≡ (entered (lists table) entry).number) →
+      Loads T text (record { table = table; number = refusal_number refusal; line = line })
+  entry_stops refusal checks =
+      line_refused T text from to h is table line filling.left (record { table = table; number = refusal_number refusal })
+      (entry_refused table entry refusal (checks filling.filled.marked) ∙ as_added, refl) (refusal_some refusal)
 
-  module _ (accepted : number ≡ 0) where
-    -- A table that holds the entry as well leaves the lines after it.
-    stored : (after : Table) (used' bound' : List Bool) → change (accepting after) ≡ entered (lists table) entry → after.schemes ≡ table.schemes → Filled after used' bound' →
-        Filling T names text after used' bound' (to + 1) (line + 1)
-    stored after used' bound' said same filled =
+  module _ (checks : Marked (lists table).terms marks → 0 ≡ (entered (lists table) entry).number) where
+    accepted : (entered (lists table) entry).number ≡ 0
+    accepted = sym (checks filling.filled.marked)
+
+    pub entry_fits : HasRoom entry
+    entry_fits = fits_accepted (lists table) entry accepted
+
+    params_few : length (lists table).params ≤ 64
+    params_few = filling.left.ready.is_well_formed.params_fit
+
+    -- A table that holds the entry as well, with its marks, leaves the lines after it.
+    turned : Filling T names text (stored table entry) (marks_with entry marks) (to + 1) (line + 1)
+    turned =
         record {
-          left = line_accepted T text from to h is table line filling.left (accepting after) (said ∙ as_added, same) refl;
-          filled = filled;
-          front = filling.front ∙ ap (λ (s : Schemes). take s.size s.names) (sym same);
+          left = line_accepted T text from to h is table line filling.left (accepting (stored table entry)) (entry_stored table filling.filled.whole entry accepted ∙ as_added, schemes_stored table entry) refl;
+          filled = entry_filled table marks filling.filled entry params_few accepted;
+          front = filling.front ∙ ap (λ (s : Schemes). take s.size s.names) (sym (schemes_stored table entry));
         }
 
-    module _ (own : ℕ) (form : TypeForm) (e : entry ≡ TypeLine own form) where
-      type_checked : number ≡ type_refusal (lists table) own form
-      unfolding entered settled
-      type_checked = checked ∙ ap (λ (l : Line). (entered (lists table) l).number) e
+    -- What the code marks: the numbers of a term row, and else none.
+    module _ (after : Table) (put : after ≡ stored table entry) where
+      pub row_turned : (own : ℕ) (term : Term) → entry ≡ TermLine own term → (marks' : Marks) → (marks'.used ≡ stores (children term) true marks.used) × (marks'.bound ≡ stores (binds term) true marks.bound) →
+          Filling T names text after marks' (to + 1) (line + 1)
+      row_turned own term e marks' marked =
+          let same : marks' ≡ marks_with entry marks = ap₂ (λ (u b : List Bool). record { used = u; bound = b }) marked.0 marked.1 ∙ ap (λ (l : Line). marks_with l marks) (sym e) in
+          rw (put, same) turned
 
-      pub type_fits : own < 64
-      type_fits = (type_room table own number accepted form type_checked).1
+      pub other_turned : ((own : ℕ) (term : Term) → entry ≡ TermLine own term → ⊥) → Filling T names text after marks (to + 1) (line + 1)
+      other_turned other = rw put (subst (λ (m : Marks). Filling T names text (stored table entry) m (to + 1) (line + 1)) (same entry refl) turned)
+        where
+          same : (l : Line) → entry ≡ l → marks_with l marks ≡ marks
+          same (TypeLine own form) e = refl
+          same (ParamLine own param) e = refl
+          same (TermLine own term) e = absurd (other own term e)
+          same NoForm e = refl
 
-      pub type_turned : Filling T names text (with_types table (set table.types own (record { form = form })) (own + 1)) used bound (to + 1) (line + 1)
-      type_turned =
-          stored _ used bound (type_stored table own number accepted form type_checked filling.filled.whole_types_lem ∙ ap (entered (lists table)) (sym e)) refl
-          (type_filled table used bound filling.filled own _)
-
-    module _ (own : ℕ) (param : Param) (e : entry ≡ ParamLine own param) where
-      param_checked : number ≡ param_refusal (lists table) own param
-      unfolding entered settled
-      param_checked = checked ∙ ap (λ (l : Line). (entered (lists table) l).number) e
-
-      pub param_fits : own < 64
-      param_fits = (param_room table own number accepted param param_checked).1
-
-      pub param_turned : Filling T names text (with_params table (set table.params own param) (own + 1)) used bound (to + 1) (line + 1)
-      param_turned =
-          stored _ used bound (param_stored table own number accepted param param_checked filling.filled.whole_params ∙ ap (entered (lists table)) (sym e)) refl
-          (param_filled table used bound filling.filled own _)
-
-    module _ (own : ℕ) (term : Term) (e : entry ≡ TermLine own term) where
-      term_checked : number ≡ term_refusal (lists table) own term
-      unfolding entered settled
-      term_checked = checked ∙ ap (λ (l : Line). (entered (lists table) l).number) e
-
-      pub term_fits : own < 256
-      term_fits = (term_room table own number accepted term term_checked).1
-
-      pub term_within : Within term
-      term_within = passed_within (lists table) own term filling.left.ready.is_well_formed.params_fit (term_passed (lists table) own term (sym term_checked ∙ accepted))
-
-      pub term_turned : (used' bound' : List Bool) → (used' ≡ stores (children term) true used) × (bound' ≡ stores (binds term) true bound) →
-          Filling T names text (with_terms table (set table.terms own (record { term = term })) (own + 1)) used' bound' (to + 1) (line + 1)
-      term_turned used' bound' marks =
-          stored _ used' bound' (term_stored table own number accepted term term_checked filling.filled.whole_terms ∙ ap (entered (lists table)) (sym e)) refl
-          (rw (marks.0, marks.1) (term_filled table used bound filling.filled own term (term_room table own number accepted term term_checked).0 term_fits term_within))
-
-    -- Bytes of none of the forms are refused.
-    pub form_known : {A : Type 0} → entry ≡ NoForm → A
+    pub row_within : (own : ℕ) (term : Term) → entry ≡ TermLine own term → Within term
     unfolding entered settled
-    form_known e = let z : ⊥ = omega (arith, checked, ap (λ (l : Line). (entered (lists table) l).number) e) in absurd z
+    row_within own term e = passed_within (lists table) own term params_few (term_passed (lists table) own term (sym (ap (λ (l : Line). (entered (lists table) l).number) e) ∙ accepted))
 
 pub none_left : (T : SchemeTable) (text : List ℕ) (table : Table) (from line : ℕ) → Left T text table from line → length text ≤ from → Loads T text (record { table = table; number = 0; line = 0 })
 none_left T text table from line left h =

@@ -6,13 +6,14 @@ ghost use Rattle.schemes.specs.Schemes.{table_in, Kept};
 ghost use Rattle.text.specs.Begins.{Begins};
 ghost use Rattle.text.specs.Loads.{Loads};
 
-use checks::marks::mark;
+use checks::marks::Marks;
 use lines::line_end;
-use model::{Line, TermRow, TypeRow};
+use model::Line;
 use schemes::Schemes;
 use table::Table;
 
-// What the adds of a text came to: the table, and the number and the line of the add that was refused; 0 and 0 where none was.
+// What the adds of a text came to: the table, and the number and the line of the add that was refused; 0 and 0 where none was. It is no Result,
+// as `Loads` speaks of the table on a refusal too.
 #[derive(Clone, Copy)]
 pub struct Loaded {
     pub table: Table,
@@ -35,34 +36,20 @@ fn add_lines(mut table: Table, names: &[u8], text: &[u8]) -> Loaded
     requires { Begins table names.now }
     ensures { Loads (table_in table.schemes) text.now result }
 {
-    let mut used = [false; Table::TERMS];
-    let mut bound = [false; Table::PARAMS];
+    let mut marks = Marks::new();
     let mut from: usize = 0;
     let mut line: usize = 1;
     while from < text.len() {
         let to = line_end(text, from);
         let entry = line::read(names, &text[from..to]);
-        let number = table.refusal(entry, &used, &bound);
-        if number != 0 {
-            return stopped(table, number, line);
+        if let Err(refusal) = table.refusal(entry, &marks) {
+            return stopped(table, refusal.into(), line);
         }
         from = to + 1;
         line += 1;
-        match entry {
-            Line::TypeLine(own, form) => {
-                table.types[own as usize] = TypeRow { form };
-                table.typecount = own as usize + 1;
-            }
-            Line::ParamLine(own, param) => {
-                table.params[own as usize] = param;
-                table.paramcount = own as usize + 1;
-            }
-            Line::TermLine(own, term) => {
-                table.terms[own as usize] = TermRow { term };
-                table.termcount = own as usize + 1;
-                mark(&mut used, &mut bound, term);
-            }
-            Line::NoForm => {}
+        table.store(entry);
+        if let Line::TermLine(_, term) = entry {
+            marks.mark(term);
         }
     }
     stopped(table, 0, 0)

@@ -4,7 +4,4 @@ use Rattle.closed.proofs.Walk.{Walked}
 use Rattle.closed.proofs.is_scoped.Given as goal
 
 abbrev pub invariant-loop-i : goal.invariant-loop-i
-invariant-loop-i l = Walked (lists l.table) l.reached l.scope l.i
-
-abbrev pub decreases-loop-i : goal.decreases-loop-i
-decreases-loop-i l = l.i
+invariant-loop-i l = Walked (lists l.table) l.scopes l.i

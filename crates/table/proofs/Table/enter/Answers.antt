@@ -1,18 +1,14 @@
--- Each kind of line has its own call.
+-- A refusal leaves the lists; the entry of an accepted line is stored behind those standing, where there is room.
 use mathlib.Core.Path.{refl, sym, ap, ◌∙◌}
-use Rattle.model.specs.Machine.{entered}
-use Rattle.table.specs.Lists.{lists}
-use Rattle.table.proofs.Stored.{no_form}
+use Rattle.table.proofs.Stored.{accepting, returned, owned_whole, fits_accepted, entry_stored, schemes_stored, entry_refused}
 use Rattle.table.proofs.Table.enter.Goals as goal
 
-pub returns-in-TypeLine : goal.returns-in-TypeLine
-returns-in-TypeLine c = (c.enter_type.ensures.0 ∙ ap (entered (lists c.args.self)) (sym c.in-TypeLine.is), c.enter_type.ensures.1)
+pub returns-in-Err : goal.returns-in-Err
+returns-in-Err c = returned _ _ c.args.self _ c.refused.ensures (entry_refused _ _ _ c.in-Err.ensures, refl)
 
-pub returns-in-ParamLine : goal.returns-in-ParamLine
-returns-in-ParamLine c = (c.enter_param.ensures.0 ∙ ap (entered (lists c.args.self)) (sym c.in-ParamLine.is), c.enter_param.ensures.1)
+pub store-requires : goal.store-requires
+store-requires c = fits_accepted _ _ (sym c.in_default.ensures)
 
-pub returns-in-TermLine : goal.returns-in-TermLine
-returns-in-TermLine c = (c.enter_term.ensures.0 ∙ ap (entered (lists c.args.self)) (sym c.in-TermLine.is), c.enter_term.ensures.1)
-
-pub returns-in-NoForm : goal.returns-in-NoForm
-returns-in-NoForm c = (no_form c.args.self ∙ ap (entered (lists c.args.self)) (sym c.in-NoForm.is), refl)
+pub returns : goal.returns
+returns c = returned _ _ c.args.self _ (c.accepted.ensures ∙ ap accepting c.store.ensures)
+    (entry_stored c.args.self (owned_whole _ c.well_formed.0) _ (sym c.in_default.ensures), schemes_stored c.args.self _)

@@ -1,5 +1,5 @@
 -- The entries left, written to the present bytes, give the whole.
-use Prim.Native.Nat.{◌-◌, ◌≤◌}
+use Prim.Native.Nat.{◌-◌}
 use mathlib.Core.Path.{◌≡◌}
 use lib.ListN.{length}
 use Rattle.table.specs.Lists.{lists}
@@ -7,7 +7,4 @@ use Rattle.test_table_export.specs.Dump.{dumped_from}
 use Rattle.test_table_export.proofs.dump.dump.Given as goal
 
 abbrev pub invariant-loop-k : goal.invariant-loop-k
-invariant-loop-k l = (l.k ≤ 384) × (length l.entries ≡ length l.initial.entries) × (dumped_from (lists l.table) l.k (384 - l.k) l.entries ≡ dumped_from (lists l.table) 0 384 l.initial.entries)
-
-abbrev pub decreases-loop-k : goal.decreases-loop-k
-decreases-loop-k l = 384 - l.k
+invariant-loop-k l = (length l.entries ≡ length l.initial.entries) × (dumped_from (lists l.table) l.k (384 - l.k) l.entries ≡ dumped_from (lists l.table) 0 384 l.initial.entries)

@@ -1,19 +1,19 @@
--- The bytes left, stored in the present list, give the whole.
-use native.Mathlib.Nat.{add-zero}
-use mathlib.Core.Path.{refl}
-use lib.ListN.{length-set}
-use borrow.Author.Rules.{rules}
-use Rattle.test_table_export.proofs.Turns.{byte_stored, bytes_stored}
+-- The middle is the bytes, and the rest stays.
+use Prim.Native.Nat.{◌+◌}
+use native.Mathlib.Omega.{arith}
+use mathlib.Core.List.{◌++◌}
+use mathlib.Core.Path.{refl, sym, ap, ◌∙◌}
+use lib.ListN.{length, take, drop}
+use Rattle.std.proofs.Math.Seq.{take-length}
+use Rattle.std.proofs.lemmas.List.Edits.{sets-eq}
+use Rattle.std.proofs.lemmas.Slice.{put_mid-paste}
 use Rattle.test_table_export.proofs.dump.put.Goals as goal
 
-pub loop-i-init : goal.loop-i-init
-loop-i-init c = (search rules, refl, rw add-zero)
-
-pub loop-i-preserved : goal.loop-i-preserved
-loop-i-preserved c = (search rules, simp length-set c.loop-i.invariant.1, byte_stored c.loop-i.entries c.args.bytes.now _ c.args.at c.loop-i.i c.loop-i.invariant.2 c.loop-i-test.true)
-
-pub shape_of-entries : goal.shape_of-entries
-shape_of-entries c = c.loop-i.invariant.1
-
 pub returns : goal.returns
-returns c = bytes_stored _ c.args.bytes.now _ c.args.at _ c.loop-i.invariant.2 c.loop-i-test.false
+returns c =
+    let at = c.args.at in
+    let bytes = c.args.bytes.now in
+    let entries = c.args.entries.now in
+    put_mid-paste at _ entries _ bytes (length bytes) c.copy_from_slice.ensures.after (omega arith) refl
+    ∙ ap (λ part. take at entries ++ part ++ drop (at + length bytes) entries) (take-length bytes)
+    ∙ sym (sets-eq bytes entries at c.requires)
