@@ -1,4 +1,5 @@
--- The crates whose code `judge` reaches, in one world: each function is found there with its own code, so some environment is wired for it.
+-- The crates whose code `judge` reaches, in one world: each function is found there with its own code, so some environment is wired for it. Of a crate
+-- that calls std elsewhere, only the functions that `judge` reaches are linked: std's code can't be.
 use mathlib.Core.List.{[], ◌∷◌}
 use mathlib.Core.Path.{refl}
 use lib.Chars.{codes}
@@ -7,11 +8,6 @@ use prog.Wired.{Wired}
 use prog.Linked.{World, Holds, in_world}
 use prog.LinkedThreads.{tie_t, tie_t-follows, tie_t-threads, has-wired_t}
 use Rattle.table.proofs.Linkage.checks as checks
-use Rattle.lines.proofs.Linkage as lines
-use Rattle.table.proofs.Linkage.tokens.numbers as numbers
-use Rattle.table.proofs.Linkage.tokens as tokens
-use Rattle.table.proofs.Linkage.line as line
-use Rattle.derive.proofs.Linkage as derive
 use Rattle.scheme.proofs.Linkage as scheme
 use Rattle.schemes.proofs.Linkage as schemes
 use Rattle.table.proofs.Linkage as table
@@ -54,55 +50,12 @@ world =
     ∷ (codes "table", table.table)
     ∷ (codes "schemes", schemes.table)
     ∷ (codes "scheme", scheme.table)
-    ∷ (codes "derive", derive.table)
-    ∷ (codes "line", line.table)
-    ∷ (codes "tokens", tokens.table)
-    ∷ (codes "numbers", numbers.table)
-    ∷ (codes "lines", lines.table)
     ∷ (codes "checks", checks.table)
     ∷ []
 
 holds_checks : Holds world "checks" checks.table
 unfolding world
 holds_checks = refl
-
-below_checks : checks.Below world
-below_checks = tt
-
-holds_lines : Holds world "lines" lines.table
-unfolding world
-holds_lines = refl
-
-below_lines : lines.Below world
-below_lines = tt
-
-holds_numbers : Holds world "numbers" numbers.table
-unfolding world
-holds_numbers = refl
-
-below_numbers : numbers.Below world
-below_numbers = tt
-
-holds_tokens : Holds world "tokens" tokens.table
-unfolding world
-holds_tokens = refl
-
-below_tokens : tokens.Below world
-below_tokens = (lines.linked_find world holds_lines below_lines, (numbers.linked_number_in world holds_numbers below_numbers, (numbers.linked_number_to world holds_numbers below_numbers, (numbers.linked_with_end world holds_numbers below_numbers, tt))))
-
-holds_line : Holds world "line" line.table
-unfolding world
-holds_line = refl
-
-below_line : line.Below world
-below_line = (tokens.linked_fields_end world holds_tokens below_tokens, (tokens.linked_fields_field world holds_tokens below_tokens, (tokens.linked_fields_number world holds_tokens below_tokens, (tokens.linked_values_read world holds_tokens below_tokens, (tokens.linked_words_same world holds_tokens below_tokens, (tokens.linked_words_spells world holds_tokens below_tokens, tt))))))
-
-holds_derive : Holds world "derive" derive.table
-unfolding world
-holds_derive = refl
-
-below_derive : derive.Below world
-below_derive = tt
 
 holds_scheme : Holds world "scheme" scheme.table
 unfolding world
@@ -115,22 +68,16 @@ holds_schemes : Holds world "schemes" schemes.table
 unfolding world
 holds_schemes = refl
 
-below_schemes : schemes.Below world
-below_schemes = (derive.linked_derive world holds_derive below_derive, (lines.linked_line_end world holds_lines below_lines, (scheme.linked_highest world holds_scheme below_scheme, (scheme.linked_meet world holds_scheme below_scheme, (tokens.linked_fields_count world holds_tokens below_tokens, (tokens.linked_fields_field world holds_tokens below_tokens, (tokens.linked_words_same world holds_tokens below_tokens, tt)))))))
-
 holds_table : Holds world "table" table.table
 unfolding world
 holds_table = refl
-
-below_table : table.Below world
-below_table = (checks.linked_marks_refusal world holds_checks below_checks, (checks.linked_param_refusal world holds_checks below_checks, (checks.linked_term_children_of world holds_checks below_checks, (checks.linked_term_names world holds_checks below_checks, (checks.linked_term_refusal world holds_checks below_checks, (checks.linked_type_refusal world holds_checks below_checks, (line.linked_read world holds_line below_line, (schemes.linked_Schemes_open world holds_schemes below_schemes, (schemes.linked_Schemes_six world holds_schemes below_schemes, (schemes.linked_front world holds_schemes below_schemes, (tokens.linked_fields_count world holds_tokens below_tokens, tt)))))))))))
 
 holds_closed : Holds world "closed" closed.table
 unfolding world
 holds_closed = refl
 
 below_closed : closed.Below world
-below_closed = (checks.linked_term_children_of world holds_checks below_checks, (table.linked_Table_parameters world holds_table below_table, (table.linked_Table_term_rows world holds_table below_table, tt)))
+below_closed = (checks.linked_term_children_of world holds_checks, (table.linked_Table_parameters world holds_table, (table.linked_Table_term_rows world holds_table, tt)))
 
 holds_floors : Holds world "floors" floors.table
 unfolding world
@@ -186,21 +133,21 @@ unfolding world
 holds_unification = refl
 
 below_unification : unification.Below world
-below_unification = (forest.linked_put_under world holds_forest below_forest, (forest.linked_root world holds_forest below_forest, (graph.linked_part world holds_graph below_graph, tt)))
+below_unification = (forest.linked_Notes_note world holds_forest below_forest, (forest.linked_put_under world holds_forest below_forest, (forest.linked_root world holds_forest below_forest, (graph.linked_part world holds_graph below_graph, tt))))
 
 holds_pending : Holds world "pending" pending.table
 unfolding world
 holds_pending = refl
 
 below_pending : pending.Below world
-below_pending = (forest.linked_find world holds_forest below_forest, (graph.linked_part world holds_graph below_graph, (layout.linked_row_qualifier world holds_layout below_layout, (layout.linked_row_type world holds_layout below_layout, (qualifiers.linked_unite world holds_qualifiers below_qualifiers, (scheme.linked_words world holds_scheme below_scheme, (unification.linked_note world holds_unification below_unification, tt)))))))
+below_pending = (forest.linked_Notes_note world holds_forest below_forest, (forest.linked_find world holds_forest below_forest, (graph.linked_part world holds_graph below_graph, (layout.linked_row_qualifier world holds_layout below_layout, (layout.linked_row_type world holds_layout below_layout, (qualifiers.linked_unite world holds_qualifiers below_qualifiers, (scheme.linked_words world holds_scheme below_scheme, tt)))))))
 
 holds_rows : Holds world "rows" rows.table
 unfolding world
 holds_rows = refl
 
 below_rows : rows.Below world
-below_rows = (forest.linked_find world holds_forest below_forest, (forest.linked_put_under world holds_forest below_forest, (forest.linked_put_under_root world holds_forest below_forest, (forest.linked_root world holds_forest below_forest, (graph.linked_part world holds_graph below_graph, (layout.linked_arrow world holds_layout below_layout, (layout.linked_row_qualifier world holds_layout below_layout, (layout.linked_row_type world holds_layout below_layout, (occurs.linked_finite_from world holds_occurs below_occurs, (pending.linked_look_through world holds_pending below_pending, (qualifiers.linked_restrict world holds_qualifiers below_qualifiers, (qualifiers.linked_unite world holds_qualifiers below_qualifiers, (qualifiers.linked_unite_all world holds_qualifiers below_qualifiers, (qualifiers.linked_within_bounds world holds_qualifiers below_qualifiers, (scheme.linked_highest_in world holds_scheme below_scheme, (scheme.linked_result world holds_scheme below_scheme, (unification.linked_make_int world holds_unification below_unification, (unification.linked_note world holds_unification below_unification, (unification.linked_unify world holds_unification below_unification, tt)))))))))))))))))))
+below_rows = (forest.linked_Notes_note world holds_forest below_forest, (forest.linked_find world holds_forest below_forest, (forest.linked_put_under world holds_forest below_forest, (forest.linked_put_under_root world holds_forest below_forest, (forest.linked_root world holds_forest below_forest, (graph.linked_part world holds_graph below_graph, (layout.linked_arrow world holds_layout below_layout, (layout.linked_row_qualifier world holds_layout below_layout, (layout.linked_row_type world holds_layout below_layout, (occurs.linked_finite_from world holds_occurs below_occurs, (pending.linked_look_through world holds_pending below_pending, (qualifiers.linked_restrict world holds_qualifiers below_qualifiers, (qualifiers.linked_unite world holds_qualifiers below_qualifiers, (qualifiers.linked_unite_all world holds_qualifiers below_qualifiers, (qualifiers.linked_within_bounds world holds_qualifiers below_qualifiers, (scheme.linked_highest_in world holds_scheme below_scheme, (scheme.linked_result world holds_scheme below_scheme, (unification.linked_make_int world holds_unification below_unification, (unification.linked_unify world holds_unification below_unification, tt)))))))))))))))))))
 
 holds_setup : Holds world "setup" setup.table
 unfolding world
@@ -221,14 +168,14 @@ unfolding world
 holds_solver = refl
 
 below_solver : solver.Below world
-below_solver = (layout.linked_row_qualifier world holds_layout below_layout, (layout.linked_row_type world holds_layout below_layout, (occurs.linked_all_finite world holds_occurs below_occurs, (occurs.linked_settle world holds_occurs below_occurs, (pending.linked_gather_add_params world holds_pending below_pending, (pending.linked_gather_add_types world holds_pending below_pending, (pending.linked_look_through world holds_pending below_pending, (pending.linked_shapes_fix world holds_pending below_pending, (qualifiers.linked_settle world holds_qualifiers below_qualifiers, (rows.linked_step world holds_rows below_rows, (scheme.linked_top world holds_scheme below_scheme, (scheme.linked_words world holds_scheme below_scheme, (setup.linked_describe_forms world holds_setup below_setup, (setup.linked_describe_term world holds_setup below_setup, (setup.linked_note_params world holds_setup below_setup, (setup.linked_start world holds_setup below_setup, (slots.linked_fill world holds_slots below_slots, tt)))))))))))))))))
+below_solver = (layout.linked_row_qualifier world holds_layout below_layout, (layout.linked_row_type world holds_layout below_layout, (occurs.linked_all_finite world holds_occurs below_occurs, (occurs.linked_settle world holds_occurs below_occurs, (pending.linked_look_through world holds_pending below_pending, (pending.linked_gather_add_params world holds_pending below_pending, (pending.linked_gather_add_types world holds_pending below_pending, (pending.linked_shapes_fix world holds_pending below_pending, (qualifiers.linked_settle world holds_qualifiers below_qualifiers, (rows.linked_step world holds_rows below_rows, (scheme.linked_top world holds_scheme below_scheme, (scheme.linked_words world holds_scheme below_scheme, (setup.linked_describe_forms world holds_setup below_setup, (setup.linked_describe_term world holds_setup below_setup, (setup.linked_note_params world holds_setup below_setup, (setup.linked_start world holds_setup below_setup, (slots.linked_fill world holds_slots below_slots, tt)))))))))))))))))
 
 holds_inference : Holds world "inference" inference.table
 unfolding world
 holds_inference = refl
 
 below_inference : inference.Below world
-below_inference = (closed.linked_is_closed world holds_closed below_closed, (floors.linked_lowest_missed world holds_floors below_floors, (report.linked_write world holds_report below_report, (report.linked_write_pair world holds_report below_report, (schemes.linked_front world holds_schemes below_schemes, (solver.linked_solve world holds_solver below_solver, (table.linked_Table_parameters world holds_table below_table, (table.linked_Table_term_rows world holds_table below_table, (table.linked_Table_type_rows world holds_table below_table, tt)))))))))
+below_inference = (closed.linked_is_closed world holds_closed below_closed, (floors.linked_lowest_missed world holds_floors below_floors, (report.linked_write world holds_report below_report, (report.linked_write_pair world holds_report below_report, (schemes.linked_front world holds_schemes, (solver.linked_solve world holds_solver below_solver, (table.linked_Table_parameters world holds_table, (table.linked_Table_term_rows world holds_table, (table.linked_Table_type_rows world holds_table, tt)))))))))
 
 holds_answered : Holds world "answered" answered.table
 unfolding world

@@ -13,6 +13,8 @@ pub fn judge(table: Table) -> usize
     ensures { HasJudgement (lists table) }
 {
     let mut buffer = [0u8; inference::REPORT];
-    let inferred = inference::infer(table, &mut buffer);
-    inferred.row
+    match inference::infer(table, &mut buffer) {
+        Ok(_) => 0,
+        Err(refused) => refused.row,
+    }
 }

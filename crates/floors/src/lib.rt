@@ -8,32 +8,21 @@ ghost use Rattle.floors.specs.Lowest.{Worded, Lowest};
 use model::{PARAMS, Param};
 use scheme::RULE;
 
-// The lowest parameter that misses its floor, or that none does.
-#[derive(Clone, Copy)]
-pub enum Missed {
-    At(usize),
-    Nowhere,
-}
-
 // Looks for the first parameter whose floor is not at or below its word, both given by their codes, under a ruling.
 pub fn lowest_missed(
     rule: &[u8; RULE],
     params: [Param; PARAMS],
     count: usize,
     words: &[u8; PARAMS],
-) -> Missed
+) -> Option<usize>
     requires fact_1 { Lattice rule.now }
     requires fact_2 { (count ≤ 64) × Worded rule.now count params words.now }
     ensures { Lowest rule.now count params words.now result }
 {
-    let mut p = 0;
-    while p < count {
-        let param = params[p];
-        let word = words[p];
-        if !scheme::is_under(rule, param.floor, word) {
-            return Missed::At(p);
+    for p in 0..count {
+        if !scheme::is_under(rule, params[p].floor, words[p]) {
+            return Some(p);
         }
-        p += 1;
     }
-    Missed::Nowhere
+    None
 }

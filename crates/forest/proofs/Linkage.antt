@@ -2,6 +2,7 @@
 use mathlib.Core.Bool.{true}
 use prog.Linked.{Tree, World, Holds, in_world}
 use prog.LinkedThreads.{HasT}
+use Rattle.forest.proofs.Notes.note.Symbol as Notes_note
 use Rattle.forest.proofs.find.Symbol as find
 use Rattle.forest.proofs.put_under.Symbol as put_under
 use Rattle.forest.proofs.put_under_root.Symbol as put_under_root
@@ -13,6 +14,9 @@ table = link.table
 
 abbrev pub Below : World → Type 0
 Below = link.Below
+
+pub linked_Notes_note : (W : World) → Holds W "forest" table → Below W → HasT (in_world W) true Notes_note.code
+linked_Notes_note = link.linked-forest::Notes::note
 
 pub linked_find : (W : World) → Holds W "forest" table → Below W → HasT (in_world W) true find.code
 linked_find = link.linked-forest::find

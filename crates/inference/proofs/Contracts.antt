@@ -1,5 +1,6 @@
 -- A step of demand 3's list is what the contract of its function ensures: each lemma is over the clauses made of the source, so a changed contract breaks it.
 use Prim.Native.Nat.{ℕ}
+use Rattle.std.specs.Prelude.{Result}
 use mathlib.Core.List.{List}
 use mathlib.Core.Path.{◌≡◌}
 use seplogic.Ra.Ura.{Ura}
@@ -28,7 +29,7 @@ use Rattle.table.specs.contracts.Table.take_back as table-take-back
 use Rattle.inference.specs.Outcome.{outcome}
 use Rattle.table.specs.Ready.{Ready}
 use Rattle.inference.specs.Ran.{Step, changes, infers}
-use Rattle.inference.specs.declared.Inferred.{Inferred}
+use Rattle.solver.specs.declared.Refused.{Refused}
 use Rattle.inference.specs.contracts.infer as inference-infer
 
 -- A primed name is the parameter at exit.
@@ -54,9 +55,9 @@ module _ {M : Type 1} {𝓤 : Ura M} (𝓛 : Logic 𝓤) (at_mem : Memory → SP
         ent 𝓤 ((table-take-back.clauses 𝓛 at_mem run κs (t, tt)).ensures tt r (t', tt)) (fact 𝓤 (Step t take_back (returning r.number) r.table))
     take_back_contract κs r = fact_mono 𝓤 _ _ (λ e. changes (takes_back e.0 e.1))
 
-    pub infer_contract : (κs : Lfts 1) (buffer buffer' : MutBor (List ℕ)) (r : Inferred) →
+    pub infer_contract : (κs : Lfts 1) (buffer buffer' : MutBor (List ℕ)) (r : Result ℕ Refused) →
         ent 𝓤 ((inference-infer.clauses 𝓛 at_mem run κs (t, (buffer, tt))).ensures tt r (t', (buffer', tt))) (fact 𝓤 (Step t (infer buffer.now) (outcome r buffer'.now) t))
-    infer_contract κs buffer buffer' r = fact_mono 𝓤 _ _ (λ said. infers (λ ready. said))
+    infer_contract κs buffer buffer' r = fact_mono 𝓤 _ _ (λ said. infers buffer'.now r (λ ready. said.0))
 
   -- The three calls, the fresh table and a file's ask for nothing.
   pub fresh-requires : (κs : Lfts 0) → ent 𝓤 (emp 𝓤) ((table-fresh.clauses 𝓛 at_mem run κs tt).requires tt)

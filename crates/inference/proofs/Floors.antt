@@ -4,6 +4,7 @@ use native.Mathlib.Omega.{arith}
 use mathlib.Core.List.{List}
 use mathlib.Core.Path.{◌≡◌, sym, ap, ap₂, ◌∙◌}
 use lib.ListN.{length, get_or}
+use Rattle.std.specs.Prelude.{Some, None}
 use Rattle.scheme.specs.Qualifier.{code, qualifier}
 use Rattle.scheme.specs.Schemes.{words, below}
 use Rattle.scheme.specs.Rule.{under}
@@ -17,14 +18,12 @@ use Rattle.table.specs.declared.Table.{Table}
 use Rattle.table.proofs.Entries.{param_at_lem}
 use Rattle.report.specs.Codes.{coded_word}
 use Rattle.report.specs.declared.Codes.{Codes}
-use Rattle.solver.specs.Runs.{Solves}
-use Rattle.solver.specs.declared.Answer.TheVariants.{Placed}
+use Rattle.solver.specs.Runs.{Placed}
 use Rattle.floors.specs.Lowest.{Worded, Holds, Lowest}
-use Rattle.floors.specs.declared.Missed.TheVariants.{At, Nowhere}
 use Rattle.table.specs.Ready.{Ready}
 use Rattle.inference.proofs.Judging.{ready_governed}
 
-module _ (t : Table) (ready : Ready t) (codes : Codes) (solves : Solves (lists t) codes Placed) (count : ℕ) (counted : count ≡ length (lists t).params) where
+module _ (t : Table) (ready : Ready t) (codes : Codes) (placed : Placed (lists t) codes) (count : ℕ) (counted : count ≡ length (lists t).params) where
   abbrev R : List ℕ
   R = t.schemes.rule
 
@@ -42,7 +41,7 @@ module _ (t : Table) (ready : Ready t) (codes : Codes) (solves : Solves (lists t
     floor_code = omega (arith, same_floor, (ready.is_well_formed.params_stand p stands).2)
 
     word_code : get_or codes.paramwords p 0 < words m.schemes
-    word_code = solves.0.worded (param p) stands
+    word_code = placed.0.worded (param p) stands
 
     -- the order by codes is the order of the qualifiers
     same_test : under R (param_in t.params p).floor (get_or codes.paramwords p 0) ≡ below m.schemes (code (qualifier (length m.schemes.names) (param_at m p).floor)) (code (qualifier (length m.schemes.names) (get_or codes.paramwords p 0)))
@@ -63,10 +62,10 @@ module _ (t : Table) (ready : Ready t) (codes : Codes) (solves : Solves (lists t
       let many = (ready_governed t ready).ruled.words_same in
       (omega (arith, many, floor_code p h), omega (arith, many, word_code p h))
 
-  pub every_met : Lowest R count t.params codes.paramwords Nowhere → FloorsMet (ruling m) m (coded_word codes)
+  pub every_met : Lowest R count t.params codes.paramwords None → FloorsMet (ruling m) m (coded_word codes)
   every_met found p h = let within : p < count = omega arith in meets p within (found p within)
 
-  pub one_missed : (p : ℕ) → Lowest R count t.params codes.paramwords (At p) → FloorMissed (ruling m) m (coded_word codes) p
+  pub one_missed : (p : ℕ) → Lowest R count t.params codes.paramwords (Some p) → FloorMissed (ruling m) m (coded_word codes) p
   one_missed p found =
       let h : p < count = found.0 in
       record {

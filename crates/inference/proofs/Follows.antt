@@ -18,12 +18,12 @@ use Rattle.inference.specs.Ran.{Step, changes, infers, Ran, done, next}
 -- One call: what it handed back and the lists that it left are the machine's answer.
 pub step_follows : {t after : Table} {call : Call} {o : Outcome} → Ready t → Step t call o after → Answers (lists t) call o (lists after)
 step_follows ready (changes called) = call_follows called
-step_follows ready (infers said) = Session'.infers (said ready)
+step_follows ready (infers after r said) = Session'.infers (said ready)
 
 -- Each call leaves what the next one asks for.
 pub step_ready : {t after : Table} {call : Call} {o : Outcome} → Ready t → Step t call o after → Ready after
 step_ready ready (changes called) = call_ready ready called
-step_ready ready (infers said) = ready
+step_ready ready (infers after r said) = ready
 
 pub ran_follows : {t : Table} {trace : List (Call × Outcome)} → Ready t → Ran t trace → Session (lists t) trace
 ran_follows ready done = Session'.done

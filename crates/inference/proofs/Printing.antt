@@ -2,9 +2,10 @@
 use Prim.Native.Nat.{ℕ, ◌≤◌}
 use native.Mathlib.Omega.{arith}
 use mathlib.Core.List.{List}
-use mathlib.Core.Path.{◌≡◌, sym, subst}
+use mathlib.Core.Path.{◌≡◌, refl, sym, subst}
+use Rattle.std.specs.Prelude.{Ok, Err}
 use lib.ListN.{length}
-use borrow.Author.Tests.{eq-eqb, ne_eqb}
+use borrow.Author.Tests.{ne_eqb}
 use Rattle.model.specs.Lists.{bytes}
 use Rattle.model.specs.Machine.{Machine}
 use Rattle.model.specs.WellFormed.{WellFormed}
@@ -15,33 +16,28 @@ use Rattle.report.specs.Writing.{Room, Wrote, Front, pair_text}
 use Rattle.report.proofs.Fronts.{front_of, front_written, pair_room}
 use Rattle.inference.specs.Outcome.{outcome}
 use Rattle.inference.specs.Printed.{Printed}
-use Rattle.inference.specs.declared.Inferred.{Inferred}
+use Rattle.solver.specs.declared.Refused.{Refused}
 use Rattle.inference.proofs.Corollaries.{reported_judged, infers_bounded}
 
-module _ (m : Machine) (buffer : List ℕ) (o : Inferred) (middle : List ℕ) (is_well_formed : WellFormed m) (infers : Infers m buffer (outcome o middle)) where
-  pub print_bounded : (o.number ≤ 24) × (o.row ≤ 255) × (o.size ≤ 6280)
-  print_bounded = infers_bounded (well_formed_within m is_well_formed) infers
+module _ (m : Machine) (buffer : List ℕ) (middle : List ℕ) (is_well_formed : WellFormed m) where
+  module _ (r : Refused) (infers : Infers m buffer (outcome (Err r) middle)) where
+    pub refusal_bounded : (r.number ≤ 24) × (r.row ≤ 255)
+    refusal_bounded = let bounded = infers_bounded (well_formed_within m is_well_formed) infers in (bounded.0, bounded.1)
 
-  module _ (refused : ¬ (o.number ≡ 0)) where
-    pub refusal_room : (word : List ℕ) → length word ≤ 2 → 6280 ≤ length middle → Room middle 0 (pair_text word o.number o.row)
-    refusal_room word short = pair_room word middle o.number o.row short (omega (arith, print_bounded.0)) (omega (arith, print_bounded.1))
+    pub refusal_room : (word : List ℕ) → length word ≤ 2 → 6280 ≤ length middle → Room middle 0 (pair_text word r.number r.row)
+    refusal_room word short = pair_room word middle r.number r.row short (omega (arith, refusal_bounded.0)) (omega (arith, refusal_bounded.1))
 
-    pub refusal_printed : (after : List ℕ) (n : ℕ) → 6280 ≤ length middle → Wrote middle 0 (pair_text (bytes "NO") o.number o.row) after n → Printed m buffer after n
+    pub refusal_printed : ¬ (r.number ≡ 0) → (after : List ℕ) (n : ℕ) → 6280 ≤ length middle → Wrote middle 0 (pair_text (bytes "NO") r.number r.row) after n → Printed m buffer after n
     unfolding pair_text
-    refusal_printed after n long wrote =
+    refusal_printed refused after n long wrote =
         record {
-          outcome = outcome o middle;
+          outcome = outcome (Err r) middle;
           infers = infers;
-          front = subst (λ (w : List ℕ). Front w after n) (sym (simp (ne_eqb o.number 0 refused))) (front_written _ middle after n (refusal_room _ (omega arith) long) wrote);
+          front = subst (λ (w : List ℕ). Front w after n) (sym (simp (ne_eqb r.number 0 refused))) (front_written _ middle after n (refusal_room _ (omega arith) long) wrote);
         }
 
-  module _ (accepted : o.number ≡ 0) where
-    pub report_printed : Printed m buffer middle o.size
-    report_printed =
-        let said = reported_judged infers accepted in
-        let stands = front_of (report m said.0 said.1) _ middle o.size said.2 said.3 in
-        record {
-          outcome = outcome o middle;
-          infers = infers;
-          front = record { bytes = sym (simp (eq-eqb o.number 0 accepted)); fits = stands.fits };
-        }
+  pub report_printed : (size : ℕ) → Infers m buffer (outcome (Ok size) middle) → Printed m buffer middle size
+  report_printed size infers =
+      let said = reported_judged infers refl in
+      let stands = front_of (report m said.0 said.1) _ middle size said.2 said.3 in
+      record { outcome = outcome (Ok size) middle; infers = infers; front = record { bytes = refl; fits = stands.fits } }

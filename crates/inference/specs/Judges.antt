@@ -1,12 +1,13 @@
--- What a verdict says of a machine.
-use Rattle.std.specs.Prelude.{◌≡◌, length}
+-- What is judged of a machine.
+use Rattle.std.specs.Prelude.{ℕ, ◌≡◌, length, Result, Ok, Err}
 use Rattle.model.specs.Machine.{Machine}
-use Rattle.model.specs.Inference.{ruling, Judged}
+use Rattle.model.specs.Inference.{ruling, Slot, Shape, Judged}
 use Rattle.report.specs.Codes.{coded_word, coded_shape}
 use Rattle.report.specs.Written.{Matches}
-use Rattle.inference.specs.declared.Verdict.{Verdict}
+use Rattle.report.specs.declared.Codes.{Codes}
+use Rattle.solver.specs.declared.Refused.{Refused}
 
--- It is what is judged of the machine, with the words and the shapes of the codes; where that is accepted, a report is written of them.
-pub record Judges (m : Machine) (r : Verdict) : Type 0 where
-  pub judged : Judged (ruling m) m r.number r.row (coded_word r.codes) (coded_shape r.codes)
-  pub matches : r.number ≡ 0 → Matches m r.codes (length m.params) (length m.terms)
+-- It is accepted with the words and the shapes of the codes, and a report is written of them; or refused with a number and a row.
+abbrev pub Judges : Machine → Result Codes Refused → Type 0
+Judges m (Ok codes) = Judged (ruling m) m 0 0 (coded_word codes) (coded_shape codes) × Matches m codes (length m.params) (length m.terms)
+Judges m (Err r) = ¬ (r.number ≡ 0) × ((word : Slot → ℕ) × (shape : Slot → Shape) × Judged (ruling m) m r.number r.row word shape)

@@ -30,6 +30,7 @@ pub const PAIR_PLACES: usize = 2 * NODES + 2;
 pub const PENDING_PLACES: usize = 2 * TYPES + PARAMS + TERMS;
 
 // The kinds of a type node: nothing is known, INT, and from the third on the arrows of the descriptors.
+// Numbers, two bytes a node: an enum that holds the descriptor takes four, and clearing such arrays is most of what a small table costs (docs/PERFORMANCE.md).
 pub const UNKNOWN: u16 = 0;
 
 pub const INT: u16 = 1;

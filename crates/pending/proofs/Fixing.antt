@@ -1,11 +1,11 @@
 -- The pairs looked at one after the other: no scheme stands with one of them whose type is still unknown.
-use Prim.Native.Nat.{ℕ, ◌+◌, ◌<◌, ◌≤◌}
+use Prim.Native.Nat.{ℕ, ◌+◌, ◌<◌}
 use native.Mathlib.Omega.{arith}
 use mathlib.Core.List.{List}
 use mathlib.Core.Logic.{inl, inr}
-use mathlib.Core.Path.{◌≡◌, refl, sym, ap, ◌∙◌}
+use mathlib.Core.Path.{◌≡◌, sym, ap, ◌∙◌}
 use lib.ListN.{set}
-use borrow.Author.Count.{below_none, below_more}
+use borrow.Author.Count.{below_more}
 use Rattle.scheme.specs.Rule.{words_at}
 use Rattle.layout.specs.Kinds as Kinds
 use Rattle.layout.specs.Layout.{nodes}
@@ -14,9 +14,9 @@ use Rattle.forest.proofs.Links.{by_eq}
 use Rattle.forest.proofs.Roots.{found_same}
 use Rattle.graph.specs.Types.{kind_at, types_of, TypeClasses}
 use Rattle.qualifiers.specs.Classes.{Qualifiers}
-use Rattle.unification.proofs.Classes.{kind_same, kind_other, kind_classes}
+use Rattle.graph.proofs.RootKinds.{kind_same, kind_other, kind_classes}
 use Rattle.pending.specs.Pending.{Pending, pair_qualifier, pair_type}
-use Rattle.pending.specs.Shapes.{SchemeAt, KeptOrInt, Fixed, PairFixed, kept, made}
+use Rattle.pending.specs.Shapes.{SchemeAt, KeptOrInt, PairFixed, kept, made}
 
 -- No scheme stands at q, whose root is s.
 pub no_scheme : {words : ℕ} {p : List ℕ} {q s : ℕ} → Found p q s → (0 < s → s < words → ⊥) → ¬ SchemeAt words p q
@@ -35,9 +35,6 @@ pub record Fixing (R u k k' : List ℕ) (Q : Qualifiers) (P : Pending) (j : ℕ)
   pub free : (i : ℕ) → i < j → NoScheme R u k' Q P i
 
 module _ {R u k : List ℕ} {Q : Qualifiers} {P : Pending} where
-  pub fixing_none : TypeClasses (types_of u k) → Fixing R u k k Q P 0
-  fixing_none classes = record { classes = classes; kinds = λ r. inl refl; free = below_none _ }
-
   -- The pair j is looked at, and what was free stays free: no kind is unknown that was known.
   module _ {k' : List ℕ} {j : ℕ} (h : j < P.count) (node : pair_type P j < nodes) (before : Fixing R u k k' Q P j) where
     next : {k'' : List ℕ} → TypeClasses (types_of u k'') → ((r : ℕ) → KeptOrInt R u k k'' Q P r) → ((r : ℕ) → kind_at k'' r ≡ Kinds.unknown → kind_at k' r ≡ Kinds.unknown) → NoScheme R u k'' Q P j → Fixing R u k k'' Q P (j + 1)
@@ -52,10 +49,10 @@ module _ {R u k : List ℕ} {Q : Qualifiers} {P : Pending} where
     was_unknown e (inl same) = sym same ∙ e
     was_unknown e (inr (unknown, int, stands)) = unknown
 
-    pub fixing_more : {k'' : List ℕ} → PairFixed (words_at R) Q.parents u k' (pair_qualifier P j) (pair_type P j) k'' → Fixing R u k k'' Q P (j + 1)
-    fixing_more (kept type none) =
+    fixing_on : {k'' : List ℕ} → PairFixed (words_at R) Q.parents u k' (pair_qualifier P j) (pair_type P j) k'' → Fixing R u k k'' Q P (j + 1)
+    fixing_on (kept type none) =
         next before.classes before.kinds (λ r e. e) (λ r found e. none (ap (kind_at k') (found_same type found) ∙ e))
-    fixing_more (made {r = root} type unknown at) =
+    fixing_on (made {r = root} type unknown at) =
         let below : root < nodes = omega (arith, type.low) in
         let int = kind_same before.classes root Kinds.int_kind below in
         let other = kind_other before.classes root Kinds.int_kind below in
@@ -75,13 +72,5 @@ module _ {R u k : List ℕ} {Q : Qualifiers} {P : Pending} where
         (λ r e. by_eq r root (λ same. absurd (known r same e)) (λ differ. sym (other r differ) ∙ e))
         (λ r found e. absurd (known r (found_same found type) e))
 
-  -- All pairs are looked at.
-  pub fixed_all : {k' : List ℕ} {j : ℕ} → P.count ≤ j → Fixing R u k k' Q P j → Fixed R u k k' Q P
-  fixed_all all fixing =
-      record {
-        classes = fixing.classes;
-        kinds = fixing.kinds;
-        free = λ r e stands.
-            fixing.free stands.pair (omega (arith, stands.in_list)) r stands.type e
-            (record { root = stands.root; found = stands.qualifier; scheme = stands.scheme });
-      }
+    pub fixing_more : {words : ℕ} {u' k'' : List ℕ} → words ≡ words_at R → u' ≡ u → PairFixed words Q.parents u' k' (pair_qualifier P j) (pair_type P j) k'' → Fixing R u k k'' Q P (j + 1)
+    fixing_more same stays fixed = fixing_on (rw (same, stays) at fixed)

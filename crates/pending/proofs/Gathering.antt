@@ -6,30 +6,15 @@ use mathlib.Core.List.{List}
 use mathlib.Core.Logic.{◌⊎◌, inl, inr}
 use mathlib.Core.Path.{◌≡◌, refl, sym, ap, ◌∙◌}
 use lib.ListN.{get_or}
-use Rattle.layout.specs.Kinds.{int_kind, first_arrow}
+use Rattle.layout.specs.Kinds.{int_kind}
 use Rattle.forest.specs.Pairs.{Notes, left_at, right_at}
 use Rattle.forest.proofs.Links.{by_eq}
-use Rattle.graph.specs.Types as graph
-use Rattle.graph.specs.Types.{kind_at, argument_qualifier, result_qualifier}
+use Rattle.graph.specs.Types.{kind_at}
 use Rattle.pending.specs.Lines.{FormPair, argument, result, ParamPair, param, Added, noted, left_out, OnePair, PairOf, Adds}
 
 -- The pair of q and x has a place, or its type is INT.
 abbrev Placed : List ℕ → Notes → ℕ → ℕ → ℕ → ℕ → Type 0
 Placed k N from to q x = ((j : ℕ) × (from ≤ j) × (j < to) × (left_at N j ≡ q) × (right_at N j ≡ x)) ⊎ (kind_at k x ≡ int_kind)
-
--- There is no pair of the sort, and nothing is added.
-pub adds_none : {S : ℕ → ℕ → Type 0} {k : List ℕ} {N : Notes} {n most : ℕ} → ((q x : ℕ) → S q x → ⊥) → Adds S k N N n most n
-adds_none none =
-    record {
-      gathered =
-          record {
-            rising = omega arith;
-            sound = λ j low high. absurd (omega arith);
-            complete = λ q x s. absurd (none q x s);
-          };
-      few = omega arith;
-      earlier = λ j h. (refl, refl);
-    }
 
 pub adds_one : {k : List ℕ} {N N' : Notes} {n q x n' : ℕ} → Added k N N' n q x n' → Adds (OnePair q x) k N N' n 1 n'
 adds_one {N' = N'} {n} (noted new) =
@@ -93,22 +78,8 @@ adds_then {S} {S'} {U} {k} {N} {N₁} {N₂} {n} {n₁} {n₂} into outof sum on
     complete q x (inl s) = first q x (one.gathered.complete q x s)
     complete q x (inr s) = second q x (two.gathered.complete q x s)
 
--- What an ARROW row adds.
-pub adds_arrow : (kids : List ℕ) (d : ℕ) {k : List ℕ} {N N₁ N₂ : Notes} {n q a q' b n₁ n₂ : ℕ} → first_arrow ≤ kind_at k d →
-    q ≡ argument_qualifier kids d → a ≡ graph.argument kids d → q' ≡ result_qualifier kids d → b ≡ graph.result kids d →
-    Added k N N₁ n q a n₁ → Added k N₁ N₂ n₁ q' b n₂ → Adds (PairOf k kids d) k N N₂ n 2 n₂
-adds_arrow kids d arrow eq ea eq' eb one two =
-    adds_then (λ s x pair. (arrow, pair)) (λ s x pair. pair.1) (omega arith) (adds_one (rw (eq, ea) at one)) (adds_one (rw (eq', eb) at two))
-
 -- One more row.
 module _ {k kids : List ℕ} where
-  pub forms_none : {N : Notes} → Adds (FormPair k kids 0) k N N 0 0 0
-  forms_none = adds_none none
-    where
-      none : (q x : ℕ) → FormPair k kids 0 q x → ⊥
-      none _ _ (argument h arrow) = omega arith
-      none _ _ (result h arrow) = omega arith
-
   pub forms_more : {N N₁ N₂ : Notes} {x n₁ n₂ : ℕ} → Adds (FormPair k kids x) k N N₁ 0 (2 * x) n₁ → Adds (PairOf k kids x) k N₁ N₂ n₁ 2 n₂ → Adds (FormPair k kids (x + 1)) k N N₂ 0 (2 * (x + 1)) n₂
   forms_more {x = x} = adds_then into outof (omega arith)
     where
@@ -130,12 +101,6 @@ module _ {k kids : List ℕ} where
 
 -- One more parameter.
 module _ {qualifiers typerows k : List ℕ} where
-  pub params_none : {N : Notes} {n : ℕ} → Adds (ParamPair qualifiers typerows 0) k N N n 0 n
-  params_none = adds_none none
-    where
-      none : (q x : ℕ) → ParamPair qualifiers typerows 0 q x → ⊥
-      none _ _ (param h) = omega arith
-
   pub params_more : {N N₁ N₂ : Notes} {p n n₁ n₂ : ℕ} → Adds (ParamPair qualifiers typerows p) k N N₁ n p n₁ → Added k N₁ N₂ n₁ (get_or qualifiers p 0) (get_or typerows p 0) n₂ → Adds (ParamPair qualifiers typerows (p + 1)) k N N₂ n (p + 1) n₂
   params_more {p = p} before new = adds_then into outof (omega arith) before (adds_one new)
     where

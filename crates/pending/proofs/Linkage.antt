@@ -4,7 +4,7 @@ use prog.Linked.{Tree, World, Holds, in_world}
 use prog.LinkedThreads.{HasT}
 use Rattle.pending.proofs.gather.add_params.Symbol as gather_add_params
 use Rattle.pending.proofs.gather.add_types.Symbol as gather_add_types
-use Rattle.pending.proofs.look_through.Symbol as look_through
+use Rattle.pending.proofs.Pending.look_through.Symbol as look_through
 use Rattle.pending.proofs.shapes.fix.Symbol as shapes_fix
 use Rattle.pending.proofs.TheLink as link
 
@@ -21,7 +21,7 @@ pub linked_gather_add_types : (W : World) → Holds W "pending" table → Below 
 linked_gather_add_types = link.linked-pending::gather::add_types
 
 pub linked_look_through : (W : World) → Holds W "pending" table → Below W → HasT (in_world W) true look_through.code
-linked_look_through = link.linked-pending::look_through
+linked_look_through = link.linked-pending::Pending::look_through
 
 pub linked_shapes_fix : (W : World) → Holds W "pending" table → Below W → HasT (in_world W) true shapes_fix.code
 linked_shapes_fix = link.linked-pending::shapes::fix

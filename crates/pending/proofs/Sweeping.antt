@@ -1,7 +1,7 @@
 -- A look at all pairs, one after the other: what holds after the first j of them, and how each turn keeps it.
 use Prim.Native.Nat.{ℕ, ◌+◌, ◌<◌, ◌≤◌}
 use native.Mathlib.Omega.{arith}
-use borrow.Author.Count.{below_none, below_more}
+use borrow.Author.Count.{below_more}
 use mathlib.Core.Bool.{Bool, true, false, false≢true}
 use mathlib.Core.List.{List}
 use mathlib.Core.Logic.{◌⊎◌, inl, inr}
@@ -16,10 +16,10 @@ use Rattle.forest.specs.Pairs.{PairsIn}
 use Rattle.forest.proofs.Links.{by_eq}
 use Rattle.graph.specs.Types.{Types, kind_at}
 use Rattle.graph.specs.Steady.{ArrowClass, UnknownClass}
-use Rattle.qualifiers.specs.Classes.{Qualifiers, Classes, Imposed, United}
+use Rattle.qualifiers.specs.Classes.{Qualifiers, Imposed, United}
 use Rattle.qualifiers.proofs.Uniting.{imposed_none, imposed_both}
-use Rattle.unification.specs.Noted.{Noted}
-use Rattle.pending.specs.Pending.{Pending, pair_qualifier, pair_type, pending_of, ArrowsPlain, QualifiersBelow, Marked, SamePair, Swept}
+use Rattle.forest.specs.Pairs.{Noted}
+use Rattle.pending.specs.Pending.{Pending, pair_qualifier, pair_type, ArrowsPlain, QualifiersBelow, Marked, SamePair, Swept}
 use Rattle.forest.proofs.Roots.{found_same}
 
 -- The first j pairs of P alone.
@@ -31,21 +31,6 @@ pub record Sweeping (R : List ℕ) (T : Types) (Q Q' : Qualifiers) (P P' : Pendi
   pub within : j ≤ P.count
   pub swept : Swept R T Q Q' (first P j) P'
   pub rest : (k : ℕ) → j ≤ k → (pair_qualifier P' k ≡ pair_qualifier P k) × (pair_type P' k ≡ pair_type P k)
-
-pub sweeping_none : {R left right crowded : List ℕ} {T : Types} {Q : Qualifiers} {n : ℕ} → Classes R Q → length crowded ≡ nodes → Sweeping R T Q Q (pending_of left right crowded n) (pending_of left right crowded 0) 0
-sweeping_none k marks =
-    record {
-      within = omega arith;
-      swept = record {
-        imposed = imposed_none k (λ v j r h. let z : ⊥ = omega arith in absurd z);
-        fewer = omega arith;
-        marks = marks;
-        from = below_none _;
-        unknown = below_none _;
-        kept = below_none _;
-      };
-      rest = λ k h. (refl, refl);
-    }
 
 -- The pair k of P is among those of P', or its type is known.
 abbrev Placed : Types → (P P' : Pending) → ℕ → Type 0

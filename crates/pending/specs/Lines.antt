@@ -4,7 +4,7 @@ use Rattle.layout.specs.Kinds.{int_kind, first_arrow}
 use Rattle.forest.specs.Pairs.{Notes, left_at, right_at}
 use Rattle.graph.specs.Types as graph
 use Rattle.graph.specs.Types.{kind_at, argument_qualifier, result_qualifier}
-use Rattle.unification.specs.Noted.{Noted}
+use Rattle.forest.specs.Pairs.{Noted}
 
 -- A pair of one of the first type rows: by the kinds the row is an ARROW, and its descriptor has the pair.
 pub data FormPair (k kids : List ℕ) (count : ℕ) : ℕ → ℕ → Type 0 where

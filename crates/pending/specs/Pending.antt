@@ -1,5 +1,5 @@
 -- Pairs of a qualifier and a type that stand together, kept while the type is unknown: once it is an arrow the qualifier is PLAIN.
-use Rattle.std.specs.Prelude.{ℕ, ◌+◌, ◌<◌, ◌≤◌, List, ◌⊎◌, ◌≡◌, true, false, length, get_or}
+use Rattle.std.specs.Prelude.{ℕ, ◌+◌, ◌<◌, ◌≤◌, List, ◌⊎◌, ◌≡◌, true, false, length, get_or, ⊤, Result, Ok, Err}
 use Rattle.model.specs.Typing.{Ty}
 use Rattle.layout.specs.Layout.{nodes, row_type, row_qualifier, qualifiers_from}
 use Rattle.layout.specs.Kinds as Kinds
@@ -9,8 +9,8 @@ use Rattle.graph.specs.Types.{Types, kind_at}
 use Rattle.graph.specs.Steady.{ArrowClass, UnknownClass}
 use Rattle.qualifiers.specs.Classes.{Qualifiers, Imposed}
 use Rattle.readings.specs.Standing.{PlainAt}
-use Rattle.pending.specs.declared.Sweep.{Sweep}
-use Rattle.pending.specs.declared.Sweep.TheVariants.{Kept, Apart}
+use Rattle.qualifiers.specs.declared.Apart.{Apart}
+use Rattle.pending.specs.declared.Pending as declared
 
 -- The first `count` pairs, the qualifier's node left and the type's right; and which roots other nodes than their own may have pairs under.
 pub record Pending : Type 0 where
@@ -20,6 +20,10 @@ pub record Pending : Type 0 where
 
 abbrev pub pending_of : List ℕ → List ℕ → List ℕ → ℕ → Pending
 pending_of left right crowded count = record { pairs = notes_of left right; crowded = crowded; count = count }
+
+-- The same of the struct.
+abbrev pub pending_in : declared.Pending → Pending
+pending_in P = pending_of P.pairs.left P.pairs.right P.crowded P.count
 
 abbrev pub pair_qualifier : Pending → ℕ → ℕ
 pair_qualifier P j = left_at P.pairs j
@@ -76,6 +80,6 @@ pub record Swept (R : List ℕ) (T : Types) (Q Q' : Qualifiers) (P P' : Pending)
   pub kept : (k : ℕ) → k < P.count → ((j : ℕ) × (j < P'.count) × SamePair P' j P k) ⊎ ((r : ℕ) × Found T.parents (pair_type P k) r × ¬ (kind_at T.kinds r ≡ Kinds.unknown))
 
 -- Or two constants met: a scheme stands with an arrow.
-abbrev pub Sweeps : (R : List ℕ) (T : Types) (Q Q' : Qualifiers) (P : Pending) (left right crowded : List ℕ) → Sweep → Type 0
-Sweeps R T Q Q' P left right crowded (Kept n) = Swept R T Q Q' P (pending_of left right crowded n)
-Sweeps R T Q Q' P left right crowded Apart = Imposed R Q Q' (ArrowsPlain T P) (QualifiersBelow P) false
+abbrev pub Sweeps : (R : List ℕ) (T : Types) (Q Q' : Qualifiers) (P P' : Pending) → Result ⊤ Apart → Type 0
+Sweeps R T Q Q' P P' (Ok x) = Swept R T Q Q' P P'
+Sweeps R T Q Q' P P' (Err e) = Imposed R Q Q' (ArrowsPlain T P) (QualifiersBelow P) false

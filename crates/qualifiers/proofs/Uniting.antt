@@ -1,21 +1,22 @@
 -- What the exits of `root`, `join`, `unite` and `unite_all` leave, and what a row leaves that puts its new node under another.
 use Prim.Native.Nat.{ℕ, ◌<◌, ◌≤◌, ◌+◌}
 use native.Mathlib.Omega.{arith}
-use borrow.Author.Count.{below_none, below_more}
-use borrow.Author.Tests.{eqb-true, lt-ltb, le-ltb}
+use borrow.Author.Count.{below_more}
+use borrow.Author.Tests.{eqb-true}
 use mathlib.Core.Bool.{Bool, true, false, true≢false, false≢true}
 use mathlib.Core.List.{List}
 use mathlib.Core.Path.{◌≡◌, refl, sym, ap, subst, ◌∙◌}
 use lib.ListN.{get_or, set}
 use lib.Seq.{set-get_or, get_or-set_other}
-use lib.Dec.{ltb}
+use Rattle.std.specs.Prelude.{Result, Ok, Err, is_ok}
 use Rattle.layout.specs.Layout.{nodes}
 use Rattle.scheme.specs.Rule.{words_at, top_at, meet_at}
 use Rattle.scheme.proofs.Rule.{meet_is_left}
 use Rattle.forest.specs.Forest.{up, Forest, Linked, Found, Rooted, Hung, TwoRoots}
 use Rattle.forest.specs.Pairs.{PairsBelow, notes_of}
 use Rattle.forest.proofs.Links.{by_eq, up_same, up_other, linked-into, linked-outof, linked-joins, root_reaches, reach-same, shorter-into, shorter-outof}
-use Rattle.qualifiers.specs.Classes.{Qualifiers, bound_at, Classes, Untouched, Imposed, United, Class, UnitedAll, qualifiers_of}
+use Rattle.qualifiers.specs.Classes.{Qualifiers, bound_at, Classes, Untouched, Imposed, United, ClassOf, UnitedAll, qualifiers_of}
+use Rattle.qualifiers.specs.declared.Apart.{Apart}
 use Rattle.qualifiers.proofs.Bounds.{sinks_along, put_under_keeps, put_under_stays, lowered, lowered_stays}
 
 -- A node put directly under its root: roots, bounds and readings stay.
@@ -46,19 +47,6 @@ pub shortened : {R p p' b : List ℕ} {x r : ℕ} → Classes R (qualifiers_of p
 shortened {R} {p} {x = x} {r} k node rooted = subst (λ (l : List ℕ). Shortened R p l x r) (sym rooted.shorter) (found_shortened k.forest x r node rooted.found)
 
 module _ {R p b : List ℕ} (k : Classes R (qualifiers_of p b)) (low high : ℕ) (roots : TwoRoots p low high) where
-  -- Two constants have their own codes in every reading.
-  clashing : high < words_at R → United R (qualifiers_of p b) (qualifiers_of p b) low high false
-  clashing constant =
-      record {
-        classes = k;
-        into = λ e. absurd (false≢true e);
-        outof = λ e. absurd (false≢true e);
-        bounds_into = λ e. absurd (false≢true e);
-        bounds_outof = λ e. absurd (false≢true e);
-        clash = λ _ v own linked e. omega (arith, own low (omega (arith, roots.less)), own high constant, roots.less);
-        stays = λ m _ u. u;
-      }
-
   joined : words_at R ≤ high → United R (qualifiers_of p b) (qualifiers_of (set p high low) (set b low (meet_at R (bound_at b low) (bound_at b high)))) low high true
   joined free =
       let l = lowered k.lattice b k.size k.codes low (bound_at b high) (omega (arith, roots.less, roots.node)) (k.codes high roots.node) in
@@ -85,36 +73,23 @@ module _ {R p b : List ℕ} (k : Classes R (qualifiers_of p b)) (low high : ℕ)
       ap (meet_at R (bound_at b low)) rand ∙ eqb-true _ _ (meet_is_left k.lattice (bound_at b low) (top_at R) code k.lattice.top_code ∙ k.lattice.top_greatest (bound_at b low) code) in
       subst (λ (b' : List ℕ). United R (qualifiers_of p b) (qualifiers_of (set p high low) b') low high true) (ap (set b low) same ∙ set-get_or b low 0) (joined free)
 
--- What `join` and `unite` answer: the root of the class that they made, or no node.
-abbrev Made : (R p b p' b' : List ℕ) (x y at r : ℕ) → Type 0
-Made R p b p' b' x y at r = United R (qualifiers_of p b) (qualifiers_of p' b') x y (ltb r nodes) × Class b (qualifiers_of p' b') at r
-
-made_none : {R p b p' : List ℕ} {x y : ℕ} (at : ℕ) → United R (qualifiers_of p b) (qualifiers_of p' b) x y false → Made R p b p' b x y at nodes
-made_none at u = (
-  u,
-  record { number = omega arith; root = λ h. absurd (omega arith); holds = λ h. absurd (omega arith); low = λ h. absurd (omega arith); others = λ z _. refl },
-)
+-- What `join` and `unite` answer: the root of the class that they made, or that the two classes stay apart.
+abbrev Made : (R p b p' b' : List ℕ) (x y at : ℕ) → Result ℕ Apart → Type 0
+Made R p b p' b' x y at r = United R (qualifiers_of p b) (qualifiers_of p' b') x y (is_ok r) × ClassOf b (qualifiers_of p' b') at r
 
 made_root : {R p b p' b' : List ℕ} {x y at r : ℕ} → r < nodes → United R (qualifiers_of p b) (qualifiers_of p' b') x y true → up p' r ≡ r → ((v : ℕ → ℕ) → Linked p' v → v r ≡ v at) → r ≤ at →
-    ((z : ℕ) → (z ≡ r → ⊥) → bound_at b' z ≡ bound_at b z) → Made R p b p' b' x y at r
-made_root {r = r} node u root holds low others =
-    (rw (lt-ltb r nodes node) u, record { number = omega arith; root = λ _. root; holds = λ _. holds; low = λ _. low; others = others })
+    ((z : ℕ) → (z ≡ r → ⊥) → bound_at b' z ≡ bound_at b z) → Made R p b p' b' x y at (Ok r)
+made_root node u root holds low others = (u, record { node = node; root = root; holds = holds; low = low; others = others })
 
 module _ {R p b : List ℕ} (k : Classes R (qualifiers_of p b)) (low high : ℕ) (roots : TwoRoots p low high) where
-  pub join_clash : high < words_at R → Made R p b p b low high low nodes
-  join_clash constant = made_none low (clashing k low high roots constant)
-
-  put_low : {b' : List ℕ} → United R (qualifiers_of p b) (qualifiers_of (set p high low) b') low high true → ((z : ℕ) → (z ≡ low → ⊥) → bound_at b' z ≡ bound_at b z) → Made R p b (set p high low) b' low high low low
+  put_low : {b' : List ℕ} → United R (qualifiers_of p b) (qualifiers_of (set p high low) b') low high true → ((z : ℕ) → (z ≡ low → ⊥) → bound_at b' z ≡ bound_at b z) → Made R p b (set p high low) b' low high low (Ok low)
   put_low u others =
       made_root (omega (arith, roots.less, roots.node)) u
       (up_other k.forest high low roots.node low (λ e. omega (arith, roots.less)) ∙ roots.low_root)
       (λ v _. refl) (omega arith) others
 
-  pub join_meets : words_at R ≤ high → Made R p b (set p high low) (set b low (meet_at R (bound_at b low) (bound_at b high))) low high low low
+  pub join_meets : words_at R ≤ high → Made R p b (set p high low) (set b low (meet_at R (bound_at b low) (bound_at b high))) low high low (Ok low)
   join_meets free = put_low (joined k low high roots free) (λ z n. get_or-set_other b low z _ 0 n)
-
-  pub join_rand : words_at R ≤ high → bound_at b high ≡ top_at R → Made R p b (set p high low) b low high low low
-  join_rand free rand = put_low (joined_rand k low high roots free rand) (λ z _. refl)
 
 united_turned : {R p b p' b' : List ℕ} {x y : ℕ} {r : Bool} → United R (qualifiers_of p b) (qualifiers_of p' b') y x r → United R (qualifiers_of p b) (qualifiers_of p' b') x y r
 united_turned u =
@@ -191,39 +166,33 @@ module _ {R p p₁ p₂ b : List ℕ} {x y a c : ℕ} (asked : Classes R (qualif
       }
 
   -- The class's root is that of y as well.
-  class_up : {p' b' : List ℕ} {at r : ℕ} → at ≤ c → (ltb r nodes ≡ true → (v : ℕ → ℕ) → Linked p' v → (v at ≡ v y)) → Class b (qualifiers_of p' b') at r → Class b (qualifiers_of p' b') y r
-  class_up {r = r} low same found =
+  class_up : (p' b' : List ℕ) {at : ℕ} (r : Result ℕ Apart) → at ≤ c → (is_ok r ≡ true → (v : ℕ → ℕ) → Linked p' v → (v at ≡ v y)) → ClassOf b (qualifiers_of p' b') at r → ClassOf b (qualifiers_of p' b') y r
+  class_up p' b' (Ok r) low same found =
       record {
-        number = found.number;
+        node = found.node;
         root = found.root;
-        holds = λ node v linked. found.holds node v linked ∙ same (lt-ltb r nodes node) v linked;
-        low = λ node. omega (arith, found.low node, second.low);
+        holds = λ v linked. found.holds v linked ∙ same refl v linked;
+        low = omega (arith, found.low, second.low);
         others = found.others;
       }
+  class_up p' b' (Err e) low same found = found
 
-  pub unite_already : a ≡ c → Made R p b p₂ b x y y a
+  pub unite_already : a ≡ c → Made R p b p₂ b x y y (Ok a)
   unite_already e =
       made_root (omega (arith, first.low, asked.1)) (united_already e) (second.roots a first.root)
       (λ v linked. ap v e ∙ sym (same_y v linked)) (omega (arith, second.low)) (λ z _. refl)
 
-  pub unite_rising : {p' b' : List ℕ} {r : ℕ} → a < c → Made R p₂ b p' b' a c a r → Made R p b p' b' x y y r
-  unite_rising less made = (
+  pub unite_rising : {p' b' : List ℕ} (r : Result ℕ Apart) → a < c → Made R p₂ b p' b' a c a r → Made R p b p' b' x y y r
+  unite_rising r less made = (
     united_roots made.0,
-    class_up (omega arith) (λ done v linked. let out = made.0.outof done v linked in out.1 ∙ sym (same_y v out.0)) made.1,
+    class_up _ _ r (omega arith) (λ done v linked. let out = made.0.outof done v linked in out.1 ∙ sym (same_y v out.0)) made.1,
   )
 
-  pub unite_falling : {p' b' : List ℕ} {r : ℕ} → Made R p₂ b p' b' c a c r → Made R p b p' b' x y y r
-  unite_falling made = (
+  pub unite_falling : {p' b' : List ℕ} (r : Result ℕ Apart) → Made R p₂ b p' b' c a c r → Made R p b p' b' x y y r
+  unite_falling r made = (
     united_roots (united_turned made.0),
-    class_up (omega arith) (λ done v linked. sym (same_y v (made.0.outof done v linked).0)) made.1,
+    class_up _ _ r (omega arith) (λ done v linked. sym (same_y v (made.0.outof done v linked).0)) made.1,
   )
-
--- The test of the answer.
-pub no_class : {r : ℕ} → r ≡ nodes → ltb r nodes ≡ false
-no_class {r} e = le-ltb r nodes (omega arith)
-
-pub class_node : {p' b b' : List ℕ} {y r : ℕ} → Class b (qualifiers_of p' b') y r → (r ≡ nodes → ⊥) → r < nodes
-class_node found n = omega (arith, found.number)
 
 -- A node made one with another's root is made one with the other.
 united_below : {R p b p' b' : List ℕ} {x y r : ℕ} → Found p y r → United R (qualifiers_of p b) (qualifiers_of p' b') x r true → United R (qualifiers_of p b) (qualifiers_of p' b') x y true
@@ -292,10 +261,6 @@ imposed_both one two split join below =
       clash = λ apart v own linked g. let parts = split v g in two.clash apart v own (one.into refl v linked parts.0) parts.1;
       stays = λ m d untouched. let parts = below m d in two.stays m parts.1 (one.stays m parts.0 untouched);
     }
-
--- No pair, one pair more, and a pair that clashes.
-pub all_none : {R p b left right : List ℕ} → Classes R (qualifiers_of p b) → UnitedAll R (qualifiers_of p b) (qualifiers_of p b) (notes_of left right) 0 true
-all_none {left} {right} k = imposed_none k (λ v. below_none (λ i. v (get_or left i 0) ≡ v (get_or right i 0)))
 
 module _ {R p b p₁ b₁ p₂ b₂ left right : List ℕ} {i : ℕ} {r : Bool} (all : UnitedAll R (qualifiers_of p b) (qualifiers_of p₁ b₁) (notes_of left right) i true) (u : United R (qualifiers_of p₁ b₁) (qualifiers_of p₂ b₂) (get_or left i 0) (get_or right i 0) r) where
   -- The pairs before i lie below m, and so does pair i.

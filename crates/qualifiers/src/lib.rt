@@ -1,168 +1,151 @@
 // Classes of qualifier nodes: made one, restricted, tested, and read off.
 #![tactic(auto)]
 
-ghost use Rattle.std.specs.Prelude.{◌≡◌, List, ℕ, ◌<◌, ◌≤◌, ltb, length};
+ghost use Rattle.std.specs.Prelude.{◌≡◌, List, ℕ, ◌<◌, ◌≤◌, length, is_ok};
 ghost use Rattle.layout.specs.Layout.{nodes};
-ghost use Rattle.scheme.specs.Rule.{words_at, top_at, under, Lattice};
-ghost use Rattle.forest.specs.Forest.{Forest, TwoRoots};
-ghost use Rattle.forest.specs.Pairs.{Pairs, notes_of};
-ghost use Rattle.qualifiers.specs.Classes.{bound_at, Classes, Within, United, Class, UnitedAll, Restricted, Tested, Settled, Greatest, Untouched, qualifiers_of};
+ghost use Rattle.scheme.specs.Rule.{words_at, meet_at, Lattice};
+ghost use Rattle.forest.specs.Forest.{TwoRoots};
+ghost use Rattle.forest.specs.Pairs.{Pairs, pairs_of};
+ghost use Rattle.qualifiers.specs.Classes.{bound_at, Classes, Within, United, ClassOf, UnitedAll, Restricted, Tested, Settled, Greatest, Untouched, qualifiers_of};
 
+use forest::Notes;
 use layout::{NODES, PAIR_PLACES};
 use scheme::RULE;
 
-// The answer where two constants would be one: no node has this number.
-pub const APART: usize = NODES;
-
-// Puts a root under a smaller one, which takes the meet of the two bounds; the greatest scheme leaves the other as it is. The smaller one, or APART: both are constants.
-fn join(
-    rule: &[u8; RULE],
-    qualifierparent: &mut [u16; NODES],
-    bound: &mut [u8; NODES],
-    low: usize,
-    high: usize,
-) -> usize
-    requires fact_1 { Classes rule.now (qualifiers_of qualifierparent.old bound.old) }
-    requires fact_2 { TwoRoots qualifierparent.old low high }
-    ensures fact_1 { United rule.now (qualifiers_of qualifierparent.old bound.old) (qualifiers_of qualifierparent.new bound.new) low high (ltb result nodes) }
-    ensures fact_2 { Class bound.old (qualifiers_of qualifierparent.new bound.new) low result }
-{
-    if high < scheme::words(rule) {
-        return APART;
-    }
-    if bound[high] == scheme::top(rule) {
-        forest::put_under(qualifierparent, high, low);
-        return low;
-    }
-    bound[low] = scheme::meet_in(rule, bound[low], bound[high]);
-    forest::put_under(qualifierparent, high, low);
-    low
+// The qualifiers' state: each node's parent, and each node's bound. No invariant of the type: `Classes` speaks of a ruling, and holds neither
+// before `setup::start` nor where `settle` stops.
+#[derive(Clone, Copy)]
+pub struct Qualifiers {
+    pub parents: [u16; NODES],
+    pub bounds: [u8; NODES],
 }
 
-// Makes the classes of two nodes one, under the smaller root: that root, or APART: both hold a constant, and not the same one.
-pub fn unite(
-    rule: &[u8; RULE],
-    qualifierparent: &mut [u16; NODES],
-    bound: &mut [u8; NODES],
-    x: usize,
-    y: usize,
-) -> usize
-    requires fact_1 { Classes rule.now (qualifiers_of qualifierparent.old bound.old) }
-    requires fact_2 { (x < nodes) × (y < nodes) }
-    ensures fact_1 { United rule.now (qualifiers_of qualifierparent.old bound.old) (qualifiers_of qualifierparent.new bound.new) x y (ltb result nodes) }
-    ensures fact_2 { Class bound.old (qualifiers_of qualifierparent.new bound.new) y result }
+// Why two classes are not made one: both hold a constant, and not the same one.
+#[derive(Clone, Copy)]
+pub struct Apart;
+
+// The meet of two bounds. Most bounds are the greatest scheme, which leaves the other as it is.
+fn meet(rule: &[u8; RULE], a: u8, b: u8) -> u8
+    requires fact_1 { Lattice rule.now }
+    requires fact_2 { (a < words_at rule.now) × (b < words_at rule.now) }
+    ensures { result ≡ meet_at rule.now a b }
 {
-    let a = forest::root(qualifierparent, x);
-    let b = forest::root(qualifierparent, y);
-    if a == b {
+    let top = scheme::top(rule);
+    if b == top {
         return a;
     }
-    if a < b {
-        join(rule, qualifierparent, bound, a, b)
-    } else {
-        join(rule, qualifierparent, bound, b, a)
+    if a == top {
+        return b;
     }
+    scheme::meet_in(rule, a, b)
 }
 
-// Makes the two nodes of each of the first n pairs one. False: two constants met.
-pub fn unite_all(
-    rule: &[u8; RULE],
-    qualifierparent: &mut [u16; NODES],
-    bound: &mut [u8; NODES],
-    left: &[u16; PAIR_PLACES],
-    right: &[u16; PAIR_PLACES],
-    n: usize,
-) -> bool
-    requires fact_1 { Classes rule.now (qualifiers_of qualifierparent.old bound.old) }
-    requires fact_2 { Pairs (notes_of left.now right.now) n }
-    ensures { UnitedAll rule.now (qualifiers_of qualifierparent.old bound.old) (qualifiers_of qualifierparent.new bound.new) (notes_of left.now right.now) n result }
-{
-    let mut i: usize = 0;
-    while i < n {
-        if unite(
-            rule,
-            qualifierparent,
-            bound,
-            left[i] as usize,
-            right[i] as usize,
-        ) == APART
-        {
-            return false;
+impl Qualifiers {
+    // Puts a root under a smaller one, which takes the meet of the two bounds. The smaller one.
+    fn join(&mut self, rule: &[u8; RULE], low: usize, high: usize) -> Result<usize, Apart>
+        requires fact_1 { Classes rule.now self.old }
+        requires fact_2 { TwoRoots self.old.parents low high }
+        ensures fact_1 { United rule.now self.old self.new low high (is_ok result) }
+        ensures fact_2 { ClassOf self.old.bounds self.new low result }
+    {
+        if high < scheme::words(rule) {
+            return Err(Apart);
         }
-        i += 1;
+        self.bounds[low] = meet(rule, self.bounds[low], self.bounds[high]);
+        forest::put_under(&mut self.parents, high, low);
+        Ok(low)
     }
-    true
-}
 
-// Lowers the bound of a root to what `most` allows. False: the root is a constant, and above its bound.
-pub fn restrict(rule: &[u8; RULE], bound: &mut [u8; NODES], r: usize, most: u8) -> bool
-    requires fact_1 { Lattice rule.now × (length bound.old ≡ nodes) × ((x : ℕ) → x < nodes → bound_at bound.old x < words_at rule.now) }
-    requires fact_2 { (r < nodes) × (most < words_at rule.now) }
-    ensures { Restricted rule.now bound.old bound.new r most result }
-{
-    if bound[r] == scheme::top(rule) {
-        bound[r] = most;
-    } else {
-        bound[r] = scheme::meet_in(rule, bound[r], most);
-    }
-    if r < scheme::words(rule) {
-        return scheme::is_under(rule, r as u8, bound[r]);
-    }
-    true
-}
-
-// Whether every constant is at or below its bound. The greatest scheme bounds nothing, and is what most bounds are.
-pub fn within_bounds(rule: &[u8; RULE], bound: &[u8; NODES]) -> bool
-    requires { Lattice rule.now × (length bound.now ≡ nodes) × ((x : ℕ) → x < nodes → bound_at bound.now x < words_at rule.now) }
-    ensures { Tested rule.now bound.now result }
-{
-    let words = scheme::words(rule) as u8;
-    let top = scheme::top(rule);
-    let mut c: u8 = 0;
-    while c < words {
-        if bound[c as usize] == top {
-            c += 1;
+    // Makes the classes of two nodes one, under the smaller root: that root.
+    pub fn unite(&mut self, rule: &[u8; RULE], x: usize, y: usize) -> Result<usize, Apart>
+        requires fact_1 { Classes rule.now self.old }
+        requires fact_2 { (x < nodes) × (y < nodes) }
+        ensures fact_1 { United rule.now self.old self.new x y (is_ok result) }
+        ensures fact_2 { ClassOf self.old.bounds self.new y result }
+    {
+        let a = forest::root(&mut self.parents, x);
+        let b = forest::root(&mut self.parents, y);
+        if a == b {
+            return Ok(a);
+        }
+        if a < b {
+            self.join(rule, a, b)
         } else {
-            if !scheme::is_under(rule, c, bound[c as usize]) {
+            self.join(rule, b, a)
+        }
+    }
+
+    // Makes the two nodes of each of the first n pairs one.
+    pub fn unite_all(
+        &mut self,
+        rule: &[u8; RULE],
+        notes: &Notes<PAIR_PLACES>,
+        n: usize,
+    ) -> Result<(), Apart>
+        requires fact_1 { Classes rule.now self.old }
+        requires fact_2 { Pairs (pairs_of notes.now) n }
+        ensures { UnitedAll rule.now self.old self.new (pairs_of notes.now) n (is_ok result) }
+    {
+        for i in 0..n {
+            // No `?`: std's code can't be linked, and `every_list_answered` (crates/answered) links all that `infer` reaches.
+            if let Err(apart) = self.unite(rule, notes.left[i] as usize, notes.right[i] as usize) {
+                return Err(apart);
+            }
+        }
+        Ok(())
+    }
+
+    // Lowers the bound of a root to what `most` allows. False: the root is a constant, and above its bound; with no `?` (as in `unite_all`) a Result
+    // is no plainer.
+    pub fn restrict(&mut self, rule: &[u8; RULE], r: usize, most: u8) -> bool
+        requires fact_1 { Lattice rule.now × (length self.old.bounds ≡ nodes) × ((x : ℕ) → x < nodes → bound_at self.old.bounds x < words_at rule.now) }
+        requires fact_2 { (r < nodes) × (most < words_at rule.now) }
+        ensures fact_1 { Restricted rule.now self.old.bounds self.new.bounds r most result }
+        ensures fact_2 { self.new.parents ≡ self.old.parents }
+    {
+        self.bounds[r] = meet(rule, self.bounds[r], most);
+        scheme::words(rule) <= r || scheme::is_under(rule, r as u8, self.bounds[r])
+    }
+
+    // Whether every constant is at or below its bound. The greatest scheme bounds nothing, and is what most bounds are. No `all`, which is std's.
+    pub fn within_bounds(&self, rule: &[u8; RULE]) -> bool
+        requires { Lattice rule.now × (length self.now.bounds ≡ nodes) × ((x : ℕ) → x < nodes → bound_at self.now.bounds x < words_at rule.now) }
+        ensures { Tested rule.now self.now.bounds result }
+    {
+        let words = scheme::words(rule) as u8;
+        let top = scheme::top(rule);
+        for c in 0..words {
+            let bound = self.bounds[c as usize];
+            if bound != top && !scheme::is_under(rule, c, bound) {
                 return false;
             }
-            c += 1;
+        }
+        true
+    }
+
+    // Puts into each word's node that word.
+    fn settle_words(&mut self, rule: &[u8; RULE])
+        requires { Lattice rule.now }
+        ensures fact_1 { (p : List ℕ) → Classes rule.now (qualifiers_of p self.old.bounds) → Within rule.now self.old.bounds → Settled rule.now (qualifiers_of p self.old.bounds) self.new.bounds (words_at rule.now) }
+        ensures fact_2 { self.new.parents ≡ self.old.parents }
+    {
+        for c in 0..scheme::words(rule) {
+            self.bounds[c] = c as u8;
         }
     }
-    true
-}
 
-// Puts into each word's node that word.
-fn settle_words(rule: &[u8; RULE], bound: &mut [u8; NODES])
-    requires { Lattice rule.now }
-    ensures { (p : List ℕ) → Classes rule.now (qualifiers_of p bound.old) → Within rule.now bound.old → Settled rule.now (qualifiers_of p bound.old) bound.new (words_at rule.now) }
-{
-    let words = scheme::words(rule);
-    let mut c: usize = 0;
-    while c < words {
-        bound[c] = c as u8;
-        c += 1;
-    }
-}
-
-// Puts into each node's bound the greatest qualifier that a reading gives it, from below: a parent is settled before its node. The
-// nodes from `count` on are untouched, and keep the bound that they have.
-pub fn settle(
-    rule: &[u8; RULE],
-    qualifierparent: &[u16; NODES],
-    bound: &mut [u8; NODES],
-    count: usize,
-)
-    requires fact_1 { Classes rule.now (qualifiers_of qualifierparent.now bound.old) }
-    requires fact_2 { Within rule.now bound.old }
-    requires fact_3 { (count ≤ nodes) × Untouched rule.now count (qualifiers_of qualifierparent.now bound.old) }
-    ensures { Greatest rule.now (qualifiers_of qualifierparent.now bound.old) (bound_at bound.new) }
-{
-    settle_words(rule, bound);
-    let mut x = scheme::words(rule);
-    while x < count {
-        let above = qualifierparent[x] as usize;
-        bound[x] = bound[above];
-        x += 1;
+    // Puts into each node's bound the greatest qualifier that a reading gives it, from below: a parent is settled before its node. The
+    // nodes from `count` on are untouched, and keep the bound that they have.
+    pub fn settle(&mut self, rule: &[u8; RULE], count: usize)
+        requires fact_1 { Classes rule.now self.old }
+        requires fact_2 { Within rule.now self.old.bounds }
+        requires fact_3 { (count ≤ nodes) × Untouched rule.now count self.old }
+        ensures { Greatest rule.now self.old (bound_at self.new.bounds) }
+    {
+        self.settle_words(rule);
+        for x in scheme::words(rule)..count {
+            let above = self.parents[x] as usize;
+            self.bounds[x] = self.bounds[above];
+        }
     }
 }

@@ -4,21 +4,21 @@ use native.Mathlib.Omega.{arith}
 use mathlib.Core.List.{List}
 use mathlib.Core.Logic.{inl, inr, ⊎_elim}
 use mathlib.Core.Path.{subst}
+use Rattle.std.specs.Prelude.{Result, Ok, Err}
 use Rattle.layout.specs.Layout.{nodes, row_type, row_qualifier}
 use Rattle.model.specs.Typing.{Ty}
 use Rattle.forest.specs.Forest.{Forest, Found, Hung}
-use Rattle.forest.specs.Pairs.{Alike, notes_of}
+use Rattle.forest.specs.Pairs.{Notes, Alike, Noted}
 use Rattle.forest.proofs.Links.{find_root}
 use Rattle.forest.proofs.Roots.{found_same, found_below}
-use Rattle.graph.specs.Types.{argument, argument_qualifier, result, result_qualifier, TypeClasses, Reads, PairRoom, Clashes, Same, types_of}
+use Rattle.graph.specs.Types.{Types, argument, argument_qualifier, result, result_qualifier, TypeClasses, Reads, PairRoom, Clashes, Same, types_of}
 use Rattle.graph.specs.Unused.{Within, Unused}
 use Rattle.graph.specs.Steady.{Steady, Calm, RootOfEither}
 use Rattle.graph.proofs.Steady.{steady_then, steady_for, steady_hung}
 use Rattle.unification.specs.Answers.{Enforces, Confined}
 use Rattle.unification.specs.Merging.{Always, Reduced, Quiet}
-use Rattle.unification.specs.Noted.{Noted}
-use Rattle.unification.specs.declared.Joining.{Joining}
-use Rattle.unification.specs.declared.Joining.TheVariants as joining
+use Rattle.unification.specs.declared.Conflict.{Conflict}
+use Rattle.unification.specs.declared.Conflict.TheVariants.{Clash, Lost}
 use Rattle.unification.proofs.Classes.{roots_most}
 use Rattle.unification.proofs.Fresh.{new_same}
 use Rattle.unification.proofs.Merging.{intact_after}
@@ -27,8 +27,8 @@ use Rattle.unification.proofs.Unused.{unused_hung}
 use Rattle.rows.specs.Steps.{Calls}
 
 -- At the start of a row there are no pairs, and room for all that can come.
-no_pairs : (u left right : List ℕ) → PairRoom u (notes_of left right) 0
-no_pairs u left right =
+no_pairs : (u : List ℕ) (N : Notes) → PairRoom u N 0
+no_pairs u N =
     record {
       pairs = record { fits = omega arith; left_node = λ i h. absurd (omega arith); right_node = λ i h. absurd (omega arith) };
       enough = omega (arith, roots_most u);
@@ -52,44 +52,44 @@ module _ {u u₂ : List ℕ} {x y : ℕ} (forest : Forest u) (below : x < nodes)
 
 -- The row's own node is put under the result's, and two pairs of qualifiers are noted.
 module _ {kids u k : List ℕ} {i a d : ℕ} (stands : (i < 256) × (a < i) × Within (row_type i) kids d) (types : TypeClasses (types_of u k)) (unused : Unused (row_type i) (types_of u k) kids)
-    (left right : List ℕ) {u₂ left₁ right₁ left₂ right₂ : List ℕ} {n₁ n₂ : ℕ} (hung : Hung u u₂ (row_type i) (result kids d))
-    (one : Noted (notes_of left right) (notes_of left₁ right₁) 0 (row_qualifier a) (argument_qualifier kids d) n₁) (next : Noted (notes_of left₁ right₁) (notes_of left₂ right₂) n₁ (row_qualifier i) (result_qualifier kids d) n₂) where
+    {u₂ : List ℕ} {N N₁ N₂ : Notes} {n₁ n₂ : ℕ} (hung : Hung u u₂ (row_type i) (result kids d))
+    (one : Noted N N₁ 0 (row_qualifier a) (argument_qualifier kids d) n₁) (next : Noted N₁ N₂ n₁ (row_qualifier i) (result_qualifier kids d) n₂) where
   under_result : Reduced kids (types_of u k) (types_of u₂ k) (Same (row_type i) (result kids d)) Always
   under_result =
       new_same types (omega arith) (unused.own (row_type i) (omega arith) (omega arith)) (unused.unknown (row_type i) (omega arith) (omega arith)) (omega (arith, stands.2.result_node)) hung
 
-  pub call_ready : TypeClasses (types_of u₂ k) × PairRoom u₂ (notes_of left₂ right₂) n₂
+  pub call_ready : TypeClasses (types_of u₂ k) × PairRoom u₂ N₂ n₂
   call_ready = (
     under_result.classes,
     record {
       pairs =
           noted_pairs next (omega (arith, one.next)) (omega arith) (omega (arith, stands.2.has_result_qualifier))
-          (noted_pairs one (omega arith) (omega arith) (omega (arith, stands.2.has_argument_qualifier)) (no_pairs u left right).pairs);
+          (noted_pairs one (omega arith) (omega arith) (omega (arith, stands.2.has_argument_qualifier)) (no_pairs u N).pairs);
       enough = omega (arith, one.next, next.next, roots_most u₂);
     },
   )
 
-  into : (t : ℕ → Ty ℕ) (v : ℕ → ℕ) → Reads (types_of u k) kids t v → Calls kids d i a t v → Reads (types_of u₂ k) kids t v × Alike (notes_of left₂ right₂) n₂ v × Same (row_type a) (argument kids d) t v
+  into : (t : ℕ → Ty ℕ) (v : ℕ → ℕ) → Reads (types_of u k) kids t v → Calls kids d i a t v → Reads (types_of u₂ k) kids t v × Alike N₂ n₂ v × Same (row_type a) (argument kids d) t v
   into t v reads e = (
     (under_result.into t v reads (cc (e))).0,
     noted_into next v (noted_into one v (λ j h. absurd (omega arith)) (cc (e))) (cc (e)),
     cc (e),
   )
 
-  outof : (t : ℕ → Ty ℕ) (v : ℕ → ℕ) → Reads (types_of u₂ k) kids t v → Alike (notes_of left₂ right₂) n₂ v → Same (row_type a) (argument kids d) t v → Reads (types_of u k) kids t v × Calls kids d i a t v
+  outof : (t : ℕ → Ty ℕ) (v : ℕ → ℕ) → Reads (types_of u₂ k) kids t v → Alike N₂ n₂ v → Same (row_type a) (argument kids d) t v → Reads (types_of u k) kids t v × Calls kids d i a t v
   outof t v reads alike same =
       let own = under_result.outof t v reads tt in
       let results = noted_outof next v alike in
       let arguments = noted_outof one v results.0 in
       (own.0, cc (own.1, results.1, arguments.1, same))
 
-  module _ (u' k' left' right' : List ℕ) where
+  module _ (T' : Types) (N' : Notes) where
     clash : Clashes kids (types_of u₂ k) (Same (row_type a) (argument kids d)) → Clashes kids (types_of u k) (Calls kids d i a)
     clash none t v reads e = let ahead = into t v reads e in none t v ahead.0 ahead.2
 
-    answered : (r : Joining) → Enforces kids (types_of u₂ k) (notes_of left₂ right₂) (types_of u' k') (notes_of left' right') n₂ (Same (row_type a) (argument kids d)) r →
-        Enforces kids (types_of u k) (notes_of left right) (types_of u' k') (notes_of left' right') 0 (Calls kids d i a) r
-    answered (joining.Pairs n) last =
+    answered : (r : Result ℕ Conflict) → Enforces kids (types_of u₂ k) N₂ T' N' n₂ (Same (row_type a) (argument kids d)) r →
+        Enforces kids (types_of u k) N T' N' 0 (Calls kids d i a) r
+    answered (Ok n) last =
         record {
           classes = last.classes;
           room = last.room;
@@ -100,11 +100,11 @@ module _ {kids u k : List ℕ} {i a d : ℕ} (stands : (i < 256) × (a < i) × W
               let before = outof t v ahead.0 ahead.1 ahead.2 in
               (before.0, (λ j h. absurd (omega arith)), before.1);
         }
-    answered joining.Clash last = (clash last.0, intact_after (λ t reads. (under_result.outof t _ reads tt).0) last.1)
-    answered joining.Lost last = clash last
+    answered (Err Clash) last = (clash last.0, intact_after (λ t reads. (under_result.outof t _ reads tt).0) last.1)
+    answered (Err Lost) last = clash last
 
-    steady : Quiet (types_of u₂ k) (types_of u' k') (row_type a) (argument kids d) → Calm (types_of u k) (row_type a) (argument kids d) →
-        Steady (row_type i) (types_of u k) (types_of u' k') (RootOfEither (types_of u k) (row_type a) (argument kids d))
+    steady : Quiet (types_of u₂ k) T' (row_type a) (argument kids d) → Calm (types_of u k) (row_type a) (argument kids d) →
+        Steady (row_type i) (types_of u k) T' (RootOfEither (types_of u k) (row_type a) (argument kids d))
     steady quiet calm =
         let forest = types.forest in
         let own : row_type i < nodes = omega arith in
@@ -114,11 +114,11 @@ module _ {kids u k : List ℕ} {i a d : ℕ} (stands : (i < 256) × (a < i) × W
         (steady_for (λ r. ⊎_elim (λ found. inl (hung_before forest own hung first found)) (λ found. inr (hung_before forest own hung second found)))
         (quiet (calm_hung forest own hung k under_result.classes.forest first second calm) (row_type i) (omega arith)))
 
-    pub called : (r : Joining) → Enforces kids (types_of u₂ k) (notes_of left₂ right₂) (types_of u' k') (notes_of left' right') n₂ (Same (row_type a) (argument kids d)) r →
-        ((m : ℕ) → row_type a < m → argument kids d < m → Confined m kids (types_of u₂ k) (notes_of left₂ right₂) (types_of u' k') (notes_of left' right') n₂ r) → Quiet (types_of u₂ k) (types_of u' k') (row_type a) (argument kids d) →
-        Enforces kids (types_of u k) (notes_of left right) (types_of u' k') (notes_of left' right') 0 (Calls kids d i a) r
-        × (Confined (row_type (i + 1)) kids (types_of u k) (notes_of left right) (types_of u' k') (notes_of left' right') 0 r
-        × (Calm (types_of u k) (row_type a) (argument kids d) → Steady (row_type i) (types_of u k) (types_of u' k') (RootOfEither (types_of u k) (row_type a) (argument kids d))))
+    pub called : (r : Result ℕ Conflict) → Enforces kids (types_of u₂ k) N₂ T' N' n₂ (Same (row_type a) (argument kids d)) r →
+        ((m : ℕ) → row_type a < m → argument kids d < m → Confined m kids (types_of u₂ k) N₂ T' N' n₂ r) → Quiet (types_of u₂ k) T' (row_type a) (argument kids d) →
+        Enforces kids (types_of u k) N T' N' 0 (Calls kids d i a) r
+        × (Confined (row_type (i + 1)) kids (types_of u k) N T' N' 0 r
+        × (Calm (types_of u k) (row_type a) (argument kids d) → Steady (row_type i) (types_of u k) T' (RootOfEither (types_of u k) (row_type a) (argument kids d))))
     called r last local quiet = (
       answered r last,
       (

@@ -12,7 +12,7 @@ use Rattle.layout.specs.Kinds as Kinds
 use Rattle.layout.specs.Readings.{Constant}
 use Rattle.model.specs.Typing.{Ty}
 use Rattle.forest.specs.Forest.{up, Linked, Found}
-use Rattle.forest.specs.Pairs.{PairsIn, notes_of}
+use Rattle.forest.specs.Pairs.{PairsIn, Noted, notes_of}
 use Rattle.forest.proofs.Links.{by_eq, root_reaches}
 use Rattle.forest.proofs.Roots.{found_same}
 use Rattle.graph.specs.Types.{Types, types_of, kind_at, Reads, Equation}
@@ -21,12 +21,12 @@ use Rattle.qualifiers.specs.Classes.{Qualifiers, Classes, Bounded, Untouched, Im
 use Rattle.qualifiers.proofs.Uniting.{imposed_none}
 use Rattle.readings.specs.Standing.{PlainAt}
 use Rattle.occurs.proofs.Readings.{by_less, reads_int, reads_arrow}
-use Rattle.unification.specs.Noted.{Noted}
 use Rattle.pending.specs.Pending.{Pending, pending_of, pair_qualifier, pair_type, AllPlain, ArrowsPlain, Marked, Held, Watched, SamePair, Swept}
 use Rattle.rows.specs.Steps.{Extended, Parted, Carried, PartsPlain, PlainAtRow}
+use Rattle.rows.proofs.Watching.{remarked}
 
 -- The pairs are of nodes.
-pub held_pairs : {left right crowded : List ℕ} {n i : ℕ} → i ≤ 256 → Held i (pending_of left right crowded n) → PairsIn pending_places (notes_of left right) n
+pub held_pairs : {P : Pending} {i : ℕ} → i ≤ 256 → Held i P → PairsIn pending_places P.pairs P.count
 held_pairs few held =
     record {
       fits = omega (arith, held.few);
@@ -139,8 +139,8 @@ module _ {R kids : List ℕ} {T T' : Types} {Q Q₁ : Qualifiers} {G E : Equatio
       }
 
 -- The pairs that are left are all. Before the look there may have been other marks.
-pub carried_cleared : {R kids left right crowded crowded₁ : List ℕ} {i n m : ℕ} {T T' : Types} {Q Q' : Qualifiers} {P' : Pending} {G O : Equation} → Cleared R m kids T' Q Q' (pending_of left right crowded₁ n) P' G →
-    ((t : ℕ → Ty ℕ) (v : ℕ → ℕ) → Reads T' kids t v → Linked Q'.parents v → PartsPlain T kids t v → AllPlain P' t v → O t v) → Carried i kids T T' Q' (pending_of left right crowded n) P' O
+pub carried_cleared : {R kids crowded₁ : List ℕ} {i m : ℕ} {T T' : Types} {Q Q' : Qualifiers} {P P' : Pending} {G O : Equation} → Cleared R m kids T' Q Q' (remarked P crowded₁) P' G →
+    ((t : ℕ → Ty ℕ) (v : ℕ → ℕ) → Reads T' kids t v → Linked Q'.parents v → PartsPlain T kids t v → AllPlain P' t v → O t v) → Carried i kids T T' Q' P P' O
 carried_cleared cleared own =
     record {
       from = λ j h. let pair = cleared.from j h in inl (pair.0, record { in_list = pair.1.in_list; qualifier = pair.1.qualifier; type = pair.1.type });

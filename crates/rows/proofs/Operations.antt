@@ -5,9 +5,8 @@ use mathlib.Core.Bool.{Bool, true, false, cond}
 use mathlib.Core.List.{List}
 use mathlib.Core.Path.{◌≡◌, refl, sym, ap, subst, ◌∙◌}
 use lib.ListN.{set}
-use lib.Dec.{ltb}
-use borrow.Author.Tests.{lt-ltb}
-use Rattle.layout.specs.Layout.{row_type, row_qualifier, nodes}
+use Rattle.std.specs.Prelude.{⊤, Result, Ok, Err}
+use Rattle.layout.specs.Layout.{row_type, row_qualifier}
 use Rattle.scheme.specs.Rule.{highest_at, under}
 use Rattle.scheme.specs.Operation.{keeps, result_of}
 use Rattle.model.specs.Typing.{Ty, int}
@@ -19,16 +18,17 @@ use Rattle.graph.specs.Unused.{Unused}
 use Rattle.graph.specs.Steady.{Steady}
 use Rattle.graph.proofs.Steady.{steady_then, steady_kind}
 use Rattle.qualifiers.specs.Classes.{bound_at, Classes, United, Class, Restricted, Untouched, Within, qualifiers_of}
-use Rattle.qualifiers.proofs.Uniting.{no_class, class_node, new_alike, untouched_more}
+use Rattle.qualifiers.proofs.Uniting.{new_alike, untouched_more}
 use Rattle.readings.specs.Nodes.{RowHolds, RowFits}
 use Rattle.unification.specs.Merging.{Always, Reduced, MadeInt}
 use Rattle.unification.proofs.Merging.{intact_after}
 use Rattle.unification.proofs.Unused.{unused_kind, unused_more}
 use Rattle.unification.proofs.Fresh.{new_int}
-use Rattle.pending.specs.Pending.{pending_of, Watched}
-use Rattle.rows.specs.Steps.{Extended, Ready, Stepped, left_of, OwnPlain}
-use Rattle.rows.specs.declared.Verdict.{Verdict}
-use Rattle.rows.specs.declared.Verdict.TheVariants.{Fine, Shapes, Apart, Broken}
+use Rattle.pending.specs.Pending.{Pending, Watched}
+use Rattle.unification.specs.declared.Conflict.TheVariants.{Clash}
+use Rattle.rows.specs.Steps.{Extended, Ready, Stepped, left_by, OwnPlain}
+use Rattle.rows.specs.declared.Failure.{Failure}
+use Rattle.rows.specs.declared.Failure.TheVariants as failures
 use Rattle.rows.proofs.Steps.{Taken, taken_beside, Equated, equated, equated_then, equated_as, extended, extended_below, parted}
 use Rattle.rows.proofs.Watching.{watched_same, carried_same}
 
@@ -72,19 +72,19 @@ module _ {i l r : ℕ} {R u k p b : List ℕ} (o : ℕ) (stands : (i < 256) × (
   abbrev Fits : (ℕ → ℕ) → Type 0
   Fits = RowFits R (Op o l r)
 
-  -- The row's step, whatever pairs are pending: it leaves all n of them.
-  abbrev Steps : (n : ℕ) (u' k' p' b' : List ℕ) → Verdict → Type 0
-  Steps n u' k' p' b' verdict =
-      (kids left right crowded : List ℕ) → Ready R i kids (types_of u k) (qualifiers_of p b) (pending_of left right crowded n) →
-      Stepped R i kids (types_of u k) (qualifiers_of p b) (pending_of left right crowded n) (left_of u' k' p' b' left right crowded) Holds Fits (OwnPlain i (Op o l r)) verdict
+  -- The row's step, whatever pairs are pending: it leaves them all.
+  abbrev Steps : (u' k' p' b' : List ℕ) → Result ⊤ Failure → Type 0
+  Steps u' k' p' b' answer =
+      (kids : List ℕ) (P : Pending) → Ready R i kids (types_of u k) (qualifiers_of p b) P →
+      Stepped R i kids (types_of u k) (qualifiers_of p b) P (left_by (types_of u' k') (qualifiers_of p' b') P) Holds Fits (OwnPlain i (Op o l r)) answer
 
   module _ {u₁ k₁ : List ℕ} {one : Bool} (first : MadeInt (types_of u k) (types_of u₁ k₁) (row_type l) one) where
     unused_first : {n : ℕ} (kids : List ℕ) → row_type i ≡ n → Unused n (types_of u k) kids → Unused n (types_of u₁ k₁) kids
     unused_first {n} kids e = first.stays n kids (omega arith) (omega arith)
 
     -- The left operand is an arrow.
-    pub left_clash : {n : ℕ} → one ≡ false → Steps n u₁ k₁ p b Shapes
-    left_clash clashed kids left right crowded ready =
+    pub left_clash : one ≡ false → Steps u₁ k₁ p b (Err (failures.Types Clash))
+    left_clash clashed kids P ready =
         let clash = first.clash clashed kids in
         (λ t v reads e. clash.0 t v reads e.0, clash.1, unused_more (unused_first kids refl ready.types) (omega arith))
 
@@ -97,8 +97,8 @@ module _ {i l r : ℕ} {R u k p b : List ℕ} (o : ℕ) (stands : (i < 256) × (
         unused_second kids unused = second.stays (row_type i) kids (omega arith) (omega arith) (unused_first kids refl unused)
 
         -- The right operand is an arrow.
-        pub right_clash : {n : ℕ} → two ≡ false → Steps n u₂ k₂ p b Shapes
-        right_clash clashed kids left right crowded ready =
+        pub right_clash : two ≡ false → Steps u₂ k₂ p b (Err (failures.Types Clash))
+        right_clash clashed kids P ready =
             let before = first.made made kids in
             let clash = second.clash clashed kids in (
               λ t v reads e. clash.0 t v (before.into t v reads e.0).0 e.1,
@@ -139,23 +139,17 @@ module _ {i l r : ℕ} {R u k p b : List ℕ} (o : ℕ) (stands : (i < 256) × (
               (λ t v e. (((e.0, e.1), e.4), (e.2, e.3 ∙ sym (result_node o (row_qualifier l) v))))
               (λ t v f q. (f.0.0, f.0.1, q.0, q.1 ∙ result_node o (row_qualifier l) v, f.1))
 
-          module _ {p₁ b₁ : List ℕ} {class : ℕ} (answer : United R (qualifiers_of p b) (qualifiers_of p₁ b₁) (row_qualifier r) (row_qualifier l) (ltb class nodes) × Class b (qualifiers_of p₁ b₁) (row_qualifier l) class) where
+          module _ {p₁ b₁ : List ℕ} where
             -- The operands have two constants.
-            pub operands_apart : {n : ℕ} → class ≡ nodes → Steps n u₂ k₃ p₁ b₁ Apart
-            operands_apart none kids left right crowded ready = (
-              parted (taken kids ready.types) (refl, refl) (λ v constant linked q. answer.0.clash (no_class none) v constant linked q.0),
+            pub operands_apart : United R (qualifiers_of p b) (qualifiers_of p₁ b₁) (row_qualifier r) (row_qualifier l) false → Steps u₂ k₃ p₁ b₁ (Err failures.Apart)
+            operands_apart apart kids P ready = (
+              parted (taken kids ready.types) (refl, refl) (λ v constant linked q. apart.clash refl v constant linked q.0),
               unused_after kids ready.types,
             )
 
-            module _ (some : class ≡ nodes → ⊥) where
-              node : class < nodes
-              node = class_node answer.1 some
-
+            module _ {class : ℕ} (united : United R (qualifiers_of p b) (qualifiers_of p₁ b₁) (row_qualifier r) (row_qualifier l) true) (of : Class b (qualifiers_of p₁ b₁) (row_qualifier l) class) where
               below : class < row_qualifier i
-              below = omega (arith, answer.1.low node)
-
-              united : United R (qualifiers_of p b) (qualifiers_of p₁ b₁) (row_qualifier r) (row_qualifier l) true
-              united = rw (lt-ltb class nodes node) at answer.0
+              below = omega (arith, of.low)
 
               module _ {result : ℕ} {p₂ : List ℕ} (is : result ≡ result_of o class) (placed : p₂ ≡ set p₁ (row_qualifier i) result) (untouched : Untouched R (row_qualifier i) (qualifiers_of p b)) where
                 untouched_first : Untouched R (row_qualifier i) (qualifiers_of p₁ b₁)
@@ -168,7 +162,7 @@ module _ {i l r : ℕ} {R u k p b : List ℕ} (o : ℕ) (stands : (i < 256) × (
                       root = result;
                       found = record {
                         low = omega arith;
-                        root = result_one (λ x. up p₁ x ≡ x) o class is (answer.1.root node) (united.classes.constants 0 (omega arith));
+                        root = result_one (λ x. up p₁ x ≡ x) o class is (of.root) (united.classes.constants 0 (omega arith));
                         reached = here;
                       };
                       under = placed;
@@ -186,8 +180,8 @@ module _ {i l r : ℕ} {R u k p b : List ℕ} (o : ℕ) (stands : (i < 256) × (
                 equated_row =
                     equated_then (equated united)
                     (equated_as
-                    (λ v linked e. e ∙ sym (result_alike o class (row_qualifier l) v is (answer.1.holds node v linked)))
-                    (λ v linked e. e ∙ result_alike o class (row_qualifier l) v is (answer.1.holds node v linked))
+                    (λ v linked e. e ∙ sym (result_alike o class (row_qualifier l) v is (of.holds v linked)))
+                    (λ v linked e. e ∙ result_alike o class (row_qualifier l) v is (of.holds v linked))
                     (equated new-result))
 
                 module _ {most : ℕ} {b₂ : List ℕ} {fits : Bool} (limit : most ≡ highest_at R o) (restricted : Restricted R b₁ b₂ class most fits) where
@@ -195,37 +189,36 @@ module _ {i l r : ℕ} {R u k p b : List ℕ} (o : ℕ) (stands : (i < 256) × (
                   op_extended {G} kids unused =
                       subst (λ (n : ℕ). Extended R kids (types_of u k) (qualifiers_of p b) (types_of u₂ k₃) (qualifiers_of p₂ b₂) G Holds (λ v. under R (v (row_qualifier l)) n ≡ true)) limit
                       (extended_below (extended (taken kids unused) equated_row) restricted
-                      (rw placed (up_other united.classes.forest (row_qualifier i) result (omega arith) class (λ e. omega (arith, below)) ∙ answer.1.root node))
-                      (λ v linked. answer.1.holds node v (new-result.outof refl v linked).0))
+                      (rw placed (up_other united.classes.forest (row_qualifier i) result (omega arith) class (λ e. omega (arith, below)) ∙ of.root))
+                      (λ v linked. of.holds v (new-result.outof refl v linked).0))
 
                   -- Only the class's bound has changed, and a constant's was tested.
                   within_after : fits ≡ true → Within R b → Within R b₂
                   within_after fit within c code =
                       by_eq c class
                       (λ e. subst (λ (x : ℕ). under R x (bound_at b₂ x) ≡ true) (sym e) (restricted.own fit (omega arith)))
-                      (λ n. ap (under R c) (restricted.others c n ∙ answer.1.others c n) ∙ within c code)
+                      (λ n. ap (under R c) (restricted.others c n ∙ of.others c n) ∙ within c code)
 
-                  watched_after : {n : ℕ} (kids left right crowded : List ℕ) → Ready R i kids (types_of u k) (qualifiers_of p b) (pending_of left right crowded n) →
-                      Watched (i + 1) (types_of u₂ k₃) (qualifiers_of p₂ b₂) (pending_of left right crowded n)
-                  watched_after kids left right crowded ready = watched_same ready.watched all_steady (λ v linked. (equated_row.outof v linked).0)
+                  watched_after : (kids : List ℕ) (P : Pending) → Ready R i kids (types_of u k) (qualifiers_of p b) P → Watched (i + 1) (types_of u₂ k₃) (qualifiers_of p₂ b₂) P
+                  watched_after kids P ready = watched_same ready.watched all_steady (λ v linked. (equated_row.outof v linked).0)
 
-                  pub op_fine : {n : ℕ} → fits ≡ true → Steps n u₂ k₃ p₂ b₂ (Fine n)
-                  op_fine fit kids left right crowded ready = (
+                  pub op_fine : {x : ⊤} → fits ≡ true → Steps u₂ k₃ p₂ b₂ (Ok x)
+                  op_fine fit kids P ready = (
                     op_extended kids ready.types,
                     record {
                       types = unused_after kids ready.types;
                       qualifiers = restricted.stays p₂ (row_qualifier (i + 1)) (omega (arith, below))
                           (new-result.stays (row_qualifier (i + 1)) (omega arith, omega (arith, result_below)) (untouched_more (omega arith) untouched_first));
                       within = within_after fit ready.within;
-                      watched = watched_after kids left right crowded ready;
+                      watched = watched_after kids P ready;
                     },
                     carried_same (λ t v. tt),
                   )
 
-                  pub op_broken : {n : ℕ} → fits ≡ false → Steps n u₂ k₃ p₂ b₂ Broken
-                  op_broken {n} over kids left right crowded ready = (
+                  pub op_broken : fits ≡ false → Steps u₂ k₃ p₂ b₂ (Err failures.Broken)
+                  op_broken over kids P ready = (
                     op_extended kids ready.types,
                     unused_after kids ready.types,
                     restricted.broken over,
-                    (n, watched_after kids left right crowded ready, carried_same (λ t v. tt)),
+                    (watched_after kids P ready, carried_same (λ t v. tt)),
                   )

@@ -1,25 +1,25 @@
 -- Two nodes are made one: what is foreseen of their classes, and that the types may be put back.
 use Prim.Native.Nat.{ℕ, ◌<◌}
 use native.Mathlib.Omega.{arith}
-use mathlib.Core.Bool.{true, false, true≢false}
+use mathlib.Core.Bool.{false}
 use mathlib.Core.List.{List}
 use mathlib.Core.Logic.{inl, inr, ⊎_elim}
 use mathlib.Core.Path.{◌≡◌, refl, sym, ap, subst, ◌∙◌}
 use lib.ListN.{length, get_or, set, length-set}
 use lib.Seq.{get_or-set_same, get_or-set_other}
+use Rattle.std.specs.Prelude.{Err}
 use Rattle.layout.specs.Layout.{nodes}
 use Rattle.layout.specs.Kinds.{first_arrow}
 use Rattle.model.specs.Typing.{Ty}
 use Rattle.forest.specs.Forest.{Found}
-use Rattle.forest.specs.Pairs.{notes_of}
+use Rattle.forest.specs.Pairs.{Notes}
 use Rattle.forest.proofs.Links.{by_eq}
 use Rattle.forest.proofs.Roots.{found_same}
-use Rattle.graph.specs.Types.{kind_at, TypeClasses, Reads, Joined, Clashes, Same, types_of}
+use Rattle.graph.specs.Types.{Types, kind_at, TypeClasses, Reads, Joined, Clashes, Intact, Same, types_of}
 use Rattle.graph.specs.Steady.{NoArrow}
-use Rattle.graph.proofs.Steady.{steady_same}
-use Rattle.unification.specs.Answers.{Enforces, Confined}
-use Rattle.unification.specs.Merging.{Quiet}
-use Rattle.unification.specs.declared.Joining.TheVariants as joining
+use Rattle.unification.specs.Answers.{Enforces}
+use Rattle.unification.specs.declared.Conflict.{Conflict}
+use Rattle.unification.specs.declared.Conflict.TheVariants.{Clash, Lost}
 use Rattle.unification.proofs.Erasing.{erase, erased}
 use Rattle.rows.specs.Applying.{Foreseen}
 
@@ -30,16 +30,6 @@ module _ (c : List ℕ) (x : ℕ) (node : x < length c) where
 
   mark_stays : (s : ℕ) → 0 < get_or c s 0 → 0 < get_or (set c x 1) s 0
   mark_stays s marked = by_eq s x mark_set (λ n. omega (arith, get_or-set_other c x s 1 0 n))
-
--- One is an arrow, and no mark has changed.
-pub foreseen_arrow : {u k c : List ℕ} {x y : ℕ} → Foreseen (types_of u k) c c x y true
-foreseen_arrow =
-    record {
-      calm = λ e. absurd (true≢false e);
-      marked = λ e. absurd (true≢false e);
-      stays = λ s marked. marked;
-      size = refl;
-    }
 
 -- The roots of the two nodes are one, or two that are no arrows.
 module _ {u : List ℕ} (k : List ℕ) {x y a b : ℕ} (first : Found u x a) (second : Found u y b) where
@@ -69,14 +59,15 @@ module _ {u : List ℕ} (k : List ℕ) {x y a b : ℕ} (first : Found u x a) (se
         }
 
 module _ {x y : ℕ} where
-  -- Two nodes are not made one, and the types were put back.
-  pub put_back : (kids u k left right : List ℕ) (n : ℕ) → TypeClasses (types_of u k) → Clashes kids (types_of u k) (Same x y) →
-      Enforces kids (types_of u k) (notes_of left right) (types_of u k) (notes_of left right) n (Same x y) joining.Clash
-      × (((m : ℕ) → x < m → y < m → Confined m kids (types_of u k) (notes_of left right) (types_of u k) (notes_of left right) n joining.Clash) × Quiet (types_of u k) (types_of u k) x y)
-  put_back kids u k left right n types none =
-      ((none, record { classes = types; outof = λ t reads. reads }), ((λ m hx hy unused pairs. (unused, tt)), λ calm n h. steady_same))
+  -- Whatever the conflict, no reading meets the equation.
+  pub refused : {kids : List ℕ} {T : Types} (N : Notes) (T' : Types) (N' : Notes) (n : ℕ) (e : Conflict) → Enforces kids T N T' N' n (Same x y) (Err e) → Clashes kids T (Same x y)
+  refused N T' N' n Clash clash = clash.0
+  refused N T' N' n Lost clash = clash
+
+  -- The types were put back.
+  pub put_back : {kids : List ℕ} {T : Types} → TypeClasses T → Clashes kids T (Same x y) → Clashes kids T (Same x y) × Intact kids T T
+  put_back types none = (none, record { classes = types; outof = λ t reads. reads })
 
   -- A type would contain itself, whatever the qualifiers are.
-  pub cyclic : {kids u k left right u' k' left' right' : List ℕ} {n n' : ℕ} → Joined kids (types_of u k) (notes_of left right) (types_of u' k') (notes_of left' right') n n' (Same x y) →
-      ((t : ℕ → Ty ℕ) (v : ℕ → ℕ) → Reads (types_of u' k') kids t v → ⊥) → Clashes kids (types_of u k) (Same x y)
+  pub cyclic : {kids : List ℕ} {T T' : Types} {N N' : Notes} {n n' : ℕ} → Joined kids T N T' N' n n' (Same x y) → ((t : ℕ → Ty ℕ) (v : ℕ → ℕ) → Reads T' kids t v → ⊥) → Clashes kids T (Same x y)
   cyclic joined none t v reads e = none _ _ (joined.into _ _ (erased reads) (λ j h. refl) (ap erase e)).0

@@ -1,12 +1,11 @@
 -- What the steps of an APP row leave of the pending pairs.
-use Rattle.std.specs.Prelude.{ℕ, ◌<◌, ◌≤◌, Bool, true, false, List, ◌≡◌, length, get_or}
+use Rattle.std.specs.Prelude.{ℕ, ◌<◌, ◌≤◌, Bool, true, false, List, ◌≡◌, length, get_or, ⊤, Result, Ok, Err}
 use Rattle.layout.specs.Layout.{row_type, qualifiers_from}
 use Rattle.graph.specs.Types.{Types}
 use Rattle.graph.specs.Steady.{Calm, RootOfEither}
 use Rattle.qualifiers.specs.Classes.{Qualifiers, Imposed}
-use Rattle.pending.specs.Pending.{Pending, pending_of, Sweeps}
-use Rattle.pending.specs.declared.Sweep.{Sweep}
-use Rattle.pending.specs.declared.Sweep.TheVariants.{Kept, Apart}
+use Rattle.qualifiers.specs.declared.Apart.{Apart}
+use Rattle.pending.specs.Pending.{Pending, Sweeps}
 
 -- Where two nodes are made one, no class becomes an arrow, and the roots of both are marked; or one may. No mark is lost.
 pub record Foreseen (T : Types) (c c' : List ℕ) (x y : ℕ) (r : Bool) : Type 0 where
@@ -16,15 +15,15 @@ pub record Foreseen (T : Types) (c c' : List ℕ) (x y : ℕ) (r : Bool) : Type 
   pub size : length c ≡ length c'
 
 -- The pairs were looked through, or are as they were.
-pub data LookedIf (R : List ℕ) (T : Types) (Q Q' : Qualifiers) (P : Pending) (left right crowded : List ℕ) (closes : Bool) : Sweep → Type 0 where
-  swept : {s : Sweep} → Sweeps R T Q Q' P left right crowded s → LookedIf R T Q Q' P left right crowded closes s
-  still : {n : ℕ} → closes ≡ false → Q' ≡ Q → P ≡ pending_of left right crowded n → LookedIf R T Q Q' P left right crowded closes (Kept n)
+pub data LookedIf (R : List ℕ) (T : Types) (Q Q' : Qualifiers) (P P' : Pending) (closes : Bool) : Result ⊤ Apart → Type 0 where
+  swept : {s : Result ⊤ Apart} → Sweeps R T Q Q' P P' s → LookedIf R T Q Q' P P' closes s
+  still : {x : ⊤} → closes ≡ false → Q' ≡ Q → P ≡ P' → LookedIf R T Q Q' P P' closes (Ok x)
 
 -- The root of a marked class was looked through; one that is not marked has its own pair made PLAIN, and the pairs stay as they are.
-pub data MadePlain (R : List ℕ) (T : Types) (Q Q' : Qualifiers) (P : Pending) (left right crowded : List ℕ) (r : ℕ) : Sweep → Type 0 where
-  looked : {s : Sweep} → Sweeps R T Q Q' P left right crowded s → MadePlain R T Q Q' P left right crowded r s
-  alone : {n : ℕ} → (get_or P.crowded r 0 ≡ 0) → (row_type 0 ≤ r) → Imposed R Q Q' (λ v. v (qualifiers_from r) ≡ v 0) (λ m. (qualifiers_from r < m) × (0 < m)) true →
-      P ≡ pending_of left right crowded n → MadePlain R T Q Q' P left right crowded r (Kept n)
-  apart : (row_type 0 ≤ r) → Imposed R Q Q' (λ v. v (qualifiers_from r) ≡ v 0) (λ m. (qualifiers_from r < m) × (0 < m)) false → MadePlain R T Q Q' P left right crowded r Apart
+pub data MadePlain (R : List ℕ) (T : Types) (Q Q' : Qualifiers) (P P' : Pending) (r : ℕ) : Result ⊤ Apart → Type 0 where
+  looked : {s : Result ⊤ Apart} → Sweeps R T Q Q' P P' s → MadePlain R T Q Q' P P' r s
+  alone : {x : ⊤} → (get_or P.crowded r 0 ≡ 0) → (row_type 0 ≤ r) → Imposed R Q Q' (λ v. v (qualifiers_from r) ≡ v 0) (λ m. (qualifiers_from r < m) × (0 < m)) true →
+      P ≡ P' → MadePlain R T Q Q' P P' r (Ok x)
+  apart : {e : Apart} → (row_type 0 ≤ r) → Imposed R Q Q' (λ v. v (qualifiers_from r) ≡ v 0) (λ m. (qualifiers_from r < m) × (0 < m)) false → MadePlain R T Q Q' P P' r (Err e)
   -- a type row that is not marked has no pairs
-  bare : {n : ℕ} → (get_or P.crowded r 0 ≡ 0) → (r < row_type 0) → Q' ≡ Q → P ≡ pending_of left right crowded n → MadePlain R T Q Q' P left right crowded r (Kept n)
+  bare : {x : ⊤} → (get_or P.crowded r 0 ≡ 0) → (r < row_type 0) → Q' ≡ Q → P ≡ P' → MadePlain R T Q Q' P P' r (Ok x)

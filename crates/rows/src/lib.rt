@@ -2,126 +2,121 @@
 #![tactic(auto)]
 
 ghost use Rattle.std.specs.Prelude.{List, ℕ, ◌+◌, ◌<◌, length, ◌≡◌};
-ghost use Rattle.forest.specs.Pairs.{PairsIn, notes_of};
+ghost use Rattle.forest.specs.Pairs.{PairsIn, pairs_of};
 ghost use Rattle.layout.specs.Layout.{row_type, row_qualifier, nodes, pending_places};
 ghost use Rattle.model.specs.declared.Term.TheVariants.{App, Op};
 ghost use Rattle.forest.specs.Forest.{Forest};
-ghost use Rattle.graph.specs.Types.{Parts, TypeClasses, PairRoom, Same, NodeArrow, types_of, argument};
+ghost use Rattle.graph.specs.Types.{Parts, TypeClasses, PairRoom, Same, NodeArrow, argument};
 ghost use Rattle.graph.specs.Steady.{Calm, Steady, RootOfEither};
 ghost use Rattle.graph.specs.Unused.{Within, Unused};
-ghost use Rattle.qualifiers.specs.Classes.{Classes, Untouched, qualifiers_of};
+ghost use Rattle.qualifiers.specs.Classes.{Classes, Untouched};
 ghost use Rattle.readings.specs.Nodes.{RowHolds, RowFits, node_named};
 ghost use Rattle.unification.specs.Answers.{Enforces, Confined};
 ghost use Rattle.unification.specs.Merging.{InUse, Quiet};
-ghost use Rattle.pending.specs.Pending.{pending_of};
+ghost use Rattle.pending.specs.Pending.{pending_in};
+ghost use Rattle.pending.specs.Pending as pairs;
 ghost use Rattle.setup.specs.Descriptors.{HasParts, Describes};
 ghost use Rattle.rows.specs.Rows.{RowStands};
-ghost use Rattle.rows.specs.Steps.{Ready, Stepped, left_of, OwnPlain, PlainAtRow, Calls, Known, UnknownRoot, Bound};
+ghost use Rattle.rows.specs.Steps.{Ready, Stepped, left_by, left_in, OwnPlain, PlainAtRow, Calls, Known, UnknownRoot, Bound};
 ghost use Rattle.rows.specs.Applying.{Foreseen, LookedIf, MadePlain};
 
-use layout::{FIRST_ARROW, INT, NODES, PAIR_PLACES, PART_PLACES, PENDING_PLACES, UNKNOWN};
-use model::{PARAMS, Term};
-use pending::Sweep;
+use forest::Notes;
+use graph::Types;
+use layout::{FIRST_ARROW, INT, NODES, PAIR_PLACES, PART_PLACES, UNKNOWN};
+use model::Term;
+use pending::Pending;
+use qualifiers::{Apart, Qualifiers};
 use scheme::RULE;
-use unification::Joining;
+use setup::Lines;
+use unification::Conflict;
 
-// How a row's step went: fine, with so many pairs pending; or its types clash, and are as they were; or its types clash; or two constants meet; or one is above its bound.
+// The state of a run: the types, the qualifiers, the pairs that are pending, and room for the pairs that one row notes.
 #[derive(Clone, Copy)]
-pub enum Verdict {
-    Fine(usize),
-    Shapes,
-    Lost,
+pub struct State {
+    pub types: Types,
+    pub qualifiers: Qualifiers,
+    pub pending: Pending,
+    pub notes: Notes<PAIR_PLACES>,
+}
+
+// Why a row leaves no typing: its types conflict, or two constants meet, or one is above its bound.
+#[derive(Clone, Copy)]
+pub enum Failure {
+    Types(Conflict),
     Apart,
     Broken,
 }
 
 // A row that is INT or an arrow whatever the others are: its nodes are new, so its kind is stored, and its qualifier put under that of node q.
 fn known_row(
-    qualifierparent: &mut [u16; NODES],
-    kind: &mut [u16; NODES],
+    qualifierparents: &mut [u16; NODES],
+    kinds: &mut [u16; NODES],
     i: usize,
     q: usize,
     k: u16,
 )
-    requires fact_1 { Forest qualifierparent.old }
+    requires fact_1 { Forest qualifierparents.old }
     requires fact_2 { (i < 256) × (q < nodes) }
-    ensures { Known i q k kind.old qualifierparent.old kind.new qualifierparent.new }
+    ensures { Known i q k kinds.old qualifierparents.old kinds.new qualifierparents.new }
 {
-    kind[layout::row_type(i)] = k;
-    forest::put_under_root(qualifierparent, layout::row_qualifier(i), q);
+    kinds[layout::row_type(i)] = k;
+    forest::put_under_root(qualifierparents, layout::row_qualifier(i), q);
 }
 
 // An OP row: three types are INT, the operands have one qualifier, the result has theirs or PLAIN, and theirs is at most the operation's.
 fn op_row(
     rule: &[u8; RULE],
-    qualifierparent: &mut [u16; NODES],
-    bound: &mut [u8; NODES],
-    typeparent: &mut [u16; NODES],
-    kind: &mut [u16; NODES],
-    n: usize,
+    types: &mut Types,
+    qualifiers: &mut Qualifiers,
     i: usize,
     o: u8,
     l: usize,
     r: usize,
-) -> Verdict
-    requires fact_1 { TypeClasses (types_of typeparent.old kind.old) }
-    requires fact_2 { Classes rule.now (qualifiers_of qualifierparent.old bound.old) }
+) -> Result<(), Failure>
+    requires fact_1 { TypeClasses types.old }
+    requires fact_2 { Classes rule.now qualifiers.old }
     requires fact_3 { (i < 256) × (l < i) × (r < i) × (o < 5) }
-    requires fact_4 { Untouched rule.now (row_qualifier i) (qualifiers_of qualifierparent.old bound.old) }
-    ensures { (kids left right crowded : List ℕ) → Ready rule.now i kids
-        (types_of typeparent.old kind.old) (qualifiers_of qualifierparent.old bound.old) (pending_of left right crowded n) → Stepped rule.now i kids
-        (types_of typeparent.old kind.old) (qualifiers_of qualifierparent.old bound.old) (pending_of left right crowded n)
-        (left_of typeparent.new kind.new qualifierparent.new bound.new left right crowded) (RowHolds i (Op o l r) 0 0) (RowFits rule.now (Op o l r)) (OwnPlain i (Op o l r)) result }
+    requires fact_4 { Untouched rule.now (row_qualifier i) qualifiers.old }
+    ensures { (kids : List ℕ) (P : pairs.Pending) → Ready rule.now i kids types.old qualifiers.old P →
+        Stepped rule.now i kids types.old qualifiers.old P (left_by types.new qualifiers.new P) (RowHolds i (Op o l r) 0 0) (RowFits rule.now (Op o l r)) (OwnPlain i (Op o l r)) result }
 {
-    if !unification::make_int(typeparent, kind, layout::row_type(l)) {
-        return Verdict::Shapes;
+    if !unification::make_int(types, layout::row_type(l)) {
+        return Err(Failure::Types(Conflict::Clash));
     }
-    if !unification::make_int(typeparent, kind, layout::row_type(r)) {
-        return Verdict::Shapes;
+    if !unification::make_int(types, layout::row_type(r)) {
+        return Err(Failure::Types(Conflict::Clash));
     }
-    kind[layout::row_type(i)] = INT;
-    let class = qualifiers::unite(
-        rule,
-        qualifierparent,
-        bound,
-        layout::row_qualifier(r),
-        layout::row_qualifier(l),
-    );
-    if class == qualifiers::APART {
-        return Verdict::Apart;
-    }
+    types.kinds[layout::row_type(i)] = INT;
+    let (right, left) = (layout::row_qualifier(r), layout::row_qualifier(l));
+    // No `?`, here and below: it calls std, whose code can't be linked, and `every_list_answered` links all that infer calls.
+    let Ok(class) = qualifiers.unite(rule, right, left) else {
+        return Err(Failure::Apart);
+    };
     let result = scheme::result(o, class as u16) as usize;
-    forest::put_under(qualifierparent, layout::row_qualifier(i), result);
-    if qualifiers::restrict(rule, bound, class, scheme::highest_in(rule, o)) {
-        Verdict::Fine(n)
-    } else {
-        Verdict::Broken
+    forest::put_under(&mut qualifiers.parents, layout::row_qualifier(i), result);
+    if !qualifiers.restrict(rule, class, scheme::highest_in(rule, o)) {
+        return Err(Failure::Broken);
     }
+    Ok(())
 }
 
 // Whether making two nodes' types one can make an arrow of an unknown type: they are two, and one is an arrow. Only then can it make a type that
 // contains itself, too. Where it can't, the root that the two will have is marked, as pairs of both are pending under it from now on.
-fn makes_arrows(
-    typeparent: &[u16; NODES],
-    kind: &[u16; NODES],
-    crowded: &mut [u8; NODES],
-    x: usize,
-    y: usize,
-) -> bool
-    requires fact_1 { TypeClasses (types_of typeparent.now kind.now) }
+fn makes_arrows(types: &Types, crowded: &mut [u8; NODES], x: usize, y: usize) -> bool
+    requires fact_1 { TypeClasses types.now }
     requires fact_2 { (x < nodes) × (y < nodes) × (length crowded.old ≡ nodes) }
-    ensures { Foreseen (types_of typeparent.now kind.now) crowded.old crowded.new x y result }
+    ensures { Foreseen types.now crowded.old crowded.new x y result }
 {
-    let a = forest::find(typeparent, x);
-    let b = forest::find(typeparent, y);
+    let a = forest::find(&types.parents, x);
+    let b = forest::find(&types.parents, y);
     if a == b {
         crowded[a] = 1;
         return false;
     }
-    if FIRST_ARROW <= kind[a] {
+    if FIRST_ARROW <= types.kinds[a] {
         return true;
     }
-    if FIRST_ARROW <= kind[b] {
+    if FIRST_ARROW <= types.kinds[b] {
         return true;
     }
     crowded[a] = 1;
@@ -131,111 +126,90 @@ fn makes_arrows(
 
 // Makes the types of two nodes one. Where that can make a type that contains itself the types are kept, and put back if it does or if they clash.
 fn unify_kept(
-    typeparent: &mut [u16; NODES],
-    kind: &mut [u16; NODES],
+    types: &mut Types,
     kids: &[u16; PART_PLACES],
-    left: &mut [u16; PAIR_PLACES],
-    right: &mut [u16; PAIR_PLACES],
+    notes: &mut Notes<PAIR_PLACES>,
     n: usize,
     x: usize,
     y: usize,
     closes: bool,
-) -> Joining
-    requires fact_1 { TypeClasses (types_of typeparent.old kind.old) }
+) -> Result<usize, Conflict>
+    requires fact_1 { TypeClasses types.old }
     requires fact_2 { Parts kids.now }
-    requires fact_3 { PairRoom typeparent.old (notes_of left.old right.old) n }
+    requires fact_3 { PairRoom types.old.parents (pairs_of notes.old) n }
     requires fact_4 { (x < nodes) × (y < nodes) }
-    ensures fact_1 { Enforces kids.now (types_of typeparent.old kind.old) (notes_of left.old right.old) (types_of typeparent.new kind.new) (notes_of left.new right.new) n (Same x y) result }
-    ensures fact_2 { ((m : ℕ) → x < m → y < m → Confined m kids.now (types_of typeparent.old kind.old) (notes_of left.old right.old) (types_of typeparent.new kind.new) (notes_of left.new right.new) n result) }
-    ensures fact_3 { Quiet (types_of typeparent.old kind.old) (types_of typeparent.new kind.new) x y }
+    ensures fact_1 { Enforces kids.now types.old (pairs_of notes.old) types.new (pairs_of notes.new) n (Same x y) result }
+    ensures fact_2 { ((m : ℕ) → x < m → y < m → Confined m kids.now types.old (pairs_of notes.old) types.new (pairs_of notes.new) n result) }
+    ensures fact_3 { Quiet types.old types.new x y }
 {
     if !closes {
-        return unification::unify(typeparent, kind, kids, left, right, n, x, y);
+        return unification::unify(types, kids, notes, n, x, y);
     }
-    let typeparent_before = *typeparent;
-    let kind_before = *kind;
-    match unification::unify(typeparent, kind, kids, left, right, n, x, y) {
-        Joining::Pairs(m) => {
-            if occurs::finite_from(typeparent, kind, kids, x) {
-                return Joining::Pairs(m);
-            }
+    let before = *types;
+    if let Ok(m) = unification::unify(types, kids, notes, n, x, y) {
+        if occurs::finite_from(types, kids, x) {
+            return Ok(m);
         }
-        Joining::Clash => {}
-        Joining::Lost => {}
     }
-    *typeparent = typeparent_before;
-    *kind = kind_before;
-    Joining::Clash
+    *types = before;
+    Err(Conflict::Clash)
 }
 
 // Makes an unknown root the arrow of row i, unless the row's argument is an arrow that would contain it.
 fn bind(
-    typeparent: &[u16; NODES],
-    kind: &mut [u16; NODES],
+    types: &mut Types,
     kids: &[u16; PART_PLACES],
     i: usize,
     function: usize,
     argument: usize,
 ) -> bool
-    requires fact_1 { TypeClasses (types_of typeparent.now kind.old) }
+    requires fact_1 { TypeClasses types.old }
     requires fact_2 { Parts kids.now }
-    requires fact_3 { (i < 256) × (argument < nodes) × UnknownRoot (types_of typeparent.now kind.old) function }
-    ensures { Bound kids.now typeparent.now kind.old kind.new function (row_type i) result }
+    requires fact_3 { (i < 256) × (argument < nodes) × UnknownRoot types.old function }
+    ensures { Bound kids.now types.old types.new function (row_type i) result }
 {
-    kind[function] = layout::arrow(layout::row_type(i));
-    if kind[forest::find(typeparent, argument)] < FIRST_ARROW {
+    types.kinds[function] = layout::arrow(layout::row_type(i));
+    if types.kinds[forest::find(&types.parents, argument)] < FIRST_ARROW {
         return true;
     }
-    if occurs::finite_from(typeparent, kind, kids, argument) {
+    if occurs::finite_from(types, kids, argument) {
         return true;
     }
-    kind[function] = UNKNOWN;
+    types.kinds[function] = UNKNOWN;
     false
 }
 
 // The equation of a call of the arrow of descriptor d: the row's own node, which is new, is put under the arrow's result, and the row's argument
 // made one with the arrow's.
 fn call(
-    typeparent: &mut [u16; NODES],
-    kind: &mut [u16; NODES],
+    types: &mut Types,
     kids: &[u16; PART_PLACES],
-    left: &mut [u16; PAIR_PLACES],
-    right: &mut [u16; PAIR_PLACES],
+    notes: &mut Notes<PAIR_PLACES>,
     i: usize,
     a: usize,
     d: usize,
     closes: bool,
-) -> Joining
-    requires fact_1 { TypeClasses (types_of typeparent.old kind.old) }
+) -> Result<usize, Conflict>
+    requires fact_1 { TypeClasses types.old }
     requires fact_2 { Parts kids.now }
     requires fact_3 { (i < 256) × (a < i) × Within (row_type i) kids.now d }
-    requires fact_4 { Unused (row_type i) (types_of typeparent.old kind.old) kids.now }
-    ensures fact_1 { Enforces kids.now (types_of typeparent.old kind.old) (notes_of left.old right.old) (types_of typeparent.new kind.new) (notes_of left.new right.new) 0 (Calls kids.now d i a) result }
-    ensures fact_2 { Confined (row_type (i + 1)) kids.now (types_of typeparent.old kind.old) (notes_of left.old right.old) (types_of typeparent.new kind.new) (notes_of left.new right.new) 0 result }
-    ensures fact_3 { (Calm (types_of typeparent.old kind.old) (row_type a) (argument kids.now d) →
-        Steady (row_type i) (types_of typeparent.old kind.old) (types_of typeparent.new kind.new) (RootOfEither (types_of typeparent.old kind.old) (row_type a) (argument kids.now d))) }
+    requires fact_4 { Unused (row_type i) types.old kids.now }
+    ensures fact_1 { Enforces kids.now types.old (pairs_of notes.old) types.new (pairs_of notes.new) 0 (Calls kids.now d i a) result }
+    ensures fact_2 { Confined (row_type (i + 1)) kids.now types.old (pairs_of notes.old) types.new (pairs_of notes.new) 0 result }
+    ensures fact_3 { (Calm types.old (row_type a) (argument kids.now d) →
+        Steady (row_type i) types.old types.new (RootOfEither types.old (row_type a) (argument kids.now d))) }
 {
-    forest::put_under_root(typeparent, layout::row_type(i), graph::part(kids, d, 3));
-    let one = unification::note(
-        left,
-        right,
-        0,
-        layout::row_qualifier(a),
-        graph::part(kids, d, 0),
+    forest::put_under_root(
+        &mut types.parents,
+        layout::row_type(i),
+        graph::part(kids, d, 3),
     );
-    let two = unification::note(
-        left,
-        right,
-        one,
-        layout::row_qualifier(i),
-        graph::part(kids, d, 2),
-    );
+    let one = notes.note(0, layout::row_qualifier(a), graph::part(kids, d, 0));
+    let two = notes.note(one, layout::row_qualifier(i), graph::part(kids, d, 2));
     unify_kept(
-        typeparent,
-        kind,
+        types,
         kids,
-        left,
-        right,
+        notes,
         two,
         layout::row_type(a),
         graph::part(kids, d, 1),
@@ -246,373 +220,228 @@ fn call(
 // Looks through the pending pairs where an arrow may have been made.
 fn look_if(
     rule: &[u8; RULE],
-    qualifierparent: &mut [u16; NODES],
-    bound: &mut [u8; NODES],
-    typeparent: &[u16; NODES],
-    kind: &[u16; NODES],
-    pairqualifier: &mut [u16; PENDING_PLACES],
-    pairtype: &mut [u16; PENDING_PLACES],
-    crowded: &mut [u8; NODES],
-    n: usize,
+    types: &Types,
+    qualifiers: &mut Qualifiers,
+    pending: &mut Pending,
     closes: bool,
-) -> Sweep
-    requires fact_1 { Classes rule.now (qualifiers_of qualifierparent.old bound.old) }
-    requires fact_2 { TypeClasses (types_of typeparent.now kind.now) }
-    requires fact_3 { PairsIn pending_places (notes_of pairqualifier.old pairtype.old) n }
-    requires fact_4 { length crowded.old ≡ nodes }
-    ensures { LookedIf rule.now (types_of typeparent.now kind.now)
-        (qualifiers_of qualifierparent.old bound.old) (qualifiers_of qualifierparent.new bound.new)
-        (pending_of pairqualifier.old pairtype.old crowded.old n)
-        pairqualifier.new pairtype.new crowded.new closes result }
+) -> Result<(), Apart>
+    requires fact_1 { Classes rule.now qualifiers.old }
+    requires fact_2 { TypeClasses types.now }
+    requires fact_3 { PairsIn pending_places (pairs_of pending.old.pairs) pending.old.count }
+    requires fact_4 { length pending.old.crowded ≡ nodes }
+    ensures { LookedIf rule.now types.now qualifiers.old qualifiers.new (pending_in pending.old) (pending_in pending.new) closes result }
 {
     if !closes {
-        return Sweep::Kept(n);
+        return Ok(());
     }
-    pending::look_through(
-        rule,
-        qualifierparent,
-        bound,
-        typeparent,
-        kind,
-        pairqualifier,
-        pairtype,
-        crowded,
-        n,
-    )
+    pending.look_through(rule, qualifiers, types)
 }
 
 // An APP row whose function is the arrow of descriptor d.
 fn call_row(
     rule: &[u8; RULE],
-    qualifierparent: &mut [u16; NODES],
-    bound: &mut [u8; NODES],
-    typeparent: &mut [u16; NODES],
-    kind: &mut [u16; NODES],
+    state: &mut State,
     kids: &[u16; PART_PLACES],
-    left: &mut [u16; PAIR_PLACES],
-    right: &mut [u16; PAIR_PLACES],
-    pairqualifier: &mut [u16; PENDING_PLACES],
-    pairtype: &mut [u16; PENDING_PLACES],
-    crowded: &mut [u8; NODES],
-    n: usize,
     i: usize,
     a: usize,
     d: usize,
-) -> Verdict
-    requires fact_1 { TypeClasses (types_of typeparent.old kind.old) }
+) -> Result<(), Failure>
+    requires fact_1 { TypeClasses state.old.types }
     requires fact_2 { Parts kids.now }
-    requires fact_3 { Classes rule.now (qualifiers_of qualifierparent.old bound.old) }
-    requires fact_4 { (i < 256) × (a < i) × InUse kind.old d }
-    requires fact_5 { Ready rule.now i kids.now (types_of typeparent.old kind.old) (qualifiers_of qualifierparent.old bound.old) (pending_of pairqualifier.old pairtype.old crowded.old n) }
-    ensures { Stepped rule.now i kids.now
-        (types_of typeparent.old kind.old) (qualifiers_of qualifierparent.old bound.old) (pending_of pairqualifier.old pairtype.old crowded.old n)
-        (left_of typeparent.new kind.new qualifierparent.new bound.new pairqualifier.new pairtype.new crowded.new)
+    requires fact_3 { Classes rule.now state.old.qualifiers }
+    requires fact_4 { (i < 256) × (a < i) × InUse state.old.types.kinds d }
+    requires fact_5 { Ready rule.now i kids.now state.old.types state.old.qualifiers (pending_in state.old.pending) }
+    ensures { Stepped rule.now i kids.now state.old.types state.old.qualifiers (pending_in state.old.pending) (left_in state.new)
         (Calls kids.now d i a) (λ v. Unit {0}) (PlainAtRow i) result }
 {
     let closes = makes_arrows(
-        typeparent,
-        kind,
-        crowded,
+        &state.types,
+        &mut state.pending.crowded,
         layout::row_type(a),
         graph::part(kids, d, 1),
     );
-    match call(typeparent, kind, kids, left, right, i, a, d, closes) {
-        Joining::Pairs(m) => {
-            if !qualifiers::unite_all(rule, qualifierparent, bound, left, right, m) {
-                return Verdict::Apart;
-            }
-            match look_if(
-                rule,
-                qualifierparent,
-                bound,
-                typeparent,
-                kind,
-                pairqualifier,
-                pairtype,
-                crowded,
-                n,
-                closes,
-            ) {
-                Sweep::Kept(kept) => {
-                    if qualifiers::within_bounds(rule, bound) {
-                        Verdict::Fine(kept)
-                    } else {
-                        Verdict::Broken
-                    }
-                }
-                Sweep::Apart => Verdict::Apart,
-            }
-        }
-        Joining::Clash => Verdict::Shapes,
-        Joining::Lost => Verdict::Lost,
+    // No `?`, as in `op_row`.
+    let m = match call(&mut state.types, kids, &mut state.notes, i, a, d, closes) {
+        Ok(m) => m,
+        Err(conflict) => return Err(Failure::Types(conflict)),
+    };
+    let Ok(()) = state.qualifiers.unite_all(rule, &state.notes, m) else {
+        return Err(Failure::Apart);
+    };
+    let (qualifiers, pending) = (&mut state.qualifiers, &mut state.pending);
+    let Ok(()) = look_if(rule, &state.types, qualifiers, pending, closes) else {
+        return Err(Failure::Apart);
+    };
+    if state.qualifiers.within_bounds(rule) {
+        Ok(())
+    } else {
+        Err(Failure::Broken)
     }
 }
 
 // The root of an unknown function has become an arrow: makes PLAIN what stands with it.
 fn function_plain(
     rule: &[u8; RULE],
-    qualifierparent: &mut [u16; NODES],
-    bound: &mut [u8; NODES],
-    typeparent: &[u16; NODES],
-    kind: &[u16; NODES],
-    pairqualifier: &mut [u16; PENDING_PLACES],
-    pairtype: &mut [u16; PENDING_PLACES],
-    crowded: &mut [u8; NODES],
-    n: usize,
+    types: &Types,
+    qualifiers: &mut Qualifiers,
+    pending: &mut Pending,
     function: usize,
-) -> Sweep
-    requires fact_1 { Classes rule.now (qualifiers_of qualifierparent.old bound.old) }
-    requires fact_2 { TypeClasses (types_of typeparent.now kind.now) }
-    requires fact_3 { PairsIn pending_places (notes_of pairqualifier.old pairtype.old) n }
-    requires fact_4 { (length crowded.old ≡ nodes) × (function < row_type 256) }
-    ensures { MadePlain rule.now (types_of typeparent.now kind.now)
-        (qualifiers_of qualifierparent.old bound.old) (qualifiers_of qualifierparent.new bound.new)
-        (pending_of pairqualifier.old pairtype.old crowded.old n)
-        pairqualifier.new pairtype.new crowded.new function result }
+) -> Result<(), Apart>
+    requires fact_1 { Classes rule.now qualifiers.old }
+    requires fact_2 { TypeClasses types.now }
+    requires fact_3 { PairsIn pending_places (pairs_of pending.old.pairs) pending.old.count }
+    requires fact_4 { (length pending.old.crowded ≡ nodes) × (function < row_type 256) }
+    ensures { MadePlain rule.now types.now qualifiers.old qualifiers.new (pending_in pending.old) (pending_in pending.new) function result }
 {
-    if 0 < crowded[function] {
-        return pending::look_through(
-            rule,
-            qualifierparent,
-            bound,
-            typeparent,
-            kind,
-            pairqualifier,
-            pairtype,
-            crowded,
-            n,
-        );
+    if 0 < pending.crowded[function] {
+        return pending.look_through(rule, qualifiers, types);
     }
     if function < layout::row_type(0) {
-        return Sweep::Kept(n);
+        return Ok(());
     }
     let own = layout::row_qualifier(function - layout::row_type(0));
-    if qualifiers::unite(rule, qualifierparent, bound, own, 0) == qualifiers::APART {
-        return Sweep::Apart;
+    // No `?`, as in `op_row`.
+    match qualifiers.unite(rule, own, 0) {
+        Ok(_) => Ok(()),
+        Err(apart) => Err(apart),
     }
-    Sweep::Kept(n)
 }
 
 // An APP row whose function is unknown: its root becomes the arrow of the row, and the row's own pair is pending.
 fn bind_row(
     rule: &[u8; RULE],
-    qualifierparent: &mut [u16; NODES],
-    bound: &mut [u8; NODES],
-    typeparent: &[u16; NODES],
-    kind: &mut [u16; NODES],
+    state: &mut State,
     kids: &[u16; PART_PLACES],
-    pairqualifier: &mut [u16; PENDING_PLACES],
-    pairtype: &mut [u16; PENDING_PLACES],
-    crowded: &mut [u8; NODES],
-    n: usize,
     i: usize,
     function: usize,
     a: usize,
-) -> Verdict
-    requires fact_1 { TypeClasses (types_of typeparent.now kind.old) }
+) -> Result<(), Failure>
+    requires fact_1 { TypeClasses state.old.types }
     requires fact_2 { Parts kids.now }
-    requires fact_3 { Classes rule.now (qualifiers_of qualifierparent.old bound.old) }
-    requires fact_4 { (i < 256) × (a < i) × (function < row_type i) × UnknownRoot (types_of typeparent.now kind.old) function × HasParts kids.now (row_type i) (row_qualifier a) (row_type a) (row_qualifier i) (row_type i) }
-    requires fact_5 { Ready rule.now i kids.now (types_of typeparent.now kind.old) (qualifiers_of qualifierparent.old bound.old) (pending_of pairqualifier.old pairtype.old crowded.old n) }
-    ensures { Stepped rule.now i kids.now
-        (types_of typeparent.now kind.old) (qualifiers_of qualifierparent.old bound.old) (pending_of pairqualifier.old pairtype.old crowded.old n)
-        (left_of typeparent.now kind.new qualifierparent.new bound.new pairqualifier.new pairtype.new crowded.new)
+    requires fact_3 { Classes rule.now state.old.qualifiers }
+    requires fact_4 { (i < 256) × (a < i) × (function < row_type i) × UnknownRoot state.old.types function × HasParts kids.now (row_type i) (row_qualifier a) (row_type a) (row_qualifier i) (row_type i) }
+    requires fact_5 { Ready rule.now i kids.now state.old.types state.old.qualifiers (pending_in state.old.pending) }
+    ensures { Stepped rule.now i kids.now state.old.types state.old.qualifiers (pending_in state.old.pending) (left_in state.new)
         (NodeArrow kids.now function (row_type i)) (λ v. Unit {0}) (PlainAtRow i) result }
 {
-    if !bind(typeparent, kind, kids, i, function, layout::row_type(a)) {
-        return Verdict::Shapes;
+    if !bind(&mut state.types, kids, i, function, layout::row_type(a)) {
+        return Err(Failure::Types(Conflict::Clash));
     }
-    match function_plain(
-        rule,
-        qualifierparent,
-        bound,
-        typeparent,
-        kind,
-        pairqualifier,
-        pairtype,
-        crowded,
-        n,
-        function,
-    ) {
-        Sweep::Kept(kept) => {
-            let pending = unification::note(
-                pairqualifier,
-                pairtype,
-                kept,
-                layout::row_qualifier(i),
-                layout::row_type(i),
-            );
-            // PLAIN is below every bound, so this does not fail: the test says it, and no proof has to.
-            if qualifiers::within_bounds(rule, bound) {
-                Verdict::Fine(pending)
-            } else {
-                Verdict::Broken
-            }
-        }
-        Sweep::Apart => Verdict::Apart,
+    let (qualifiers, pending) = (&mut state.qualifiers, &mut state.pending);
+    // No `?`, as in `op_row`.
+    let Ok(()) = function_plain(rule, &state.types, qualifiers, pending, function) else {
+        return Err(Failure::Apart);
+    };
+    let kept = state.pending.count;
+    let (q, x) = (layout::row_qualifier(i), layout::row_type(i));
+    let noted = state.pending.pairs.note(kept, q, x);
+    state.pending.count = noted;
+    // PLAIN is below every bound, so this does not fail: the test says it, and no proof has to.
+    if !state.qualifiers.within_bounds(rule) {
+        return Err(Failure::Broken);
     }
+    Ok(())
 }
 
 // An APP row: its function is the arrow from its argument to itself.
 fn app_row(
     rule: &[u8; RULE],
-    qualifierparent: &mut [u16; NODES],
-    bound: &mut [u8; NODES],
-    typeparent: &mut [u16; NODES],
-    kind: &mut [u16; NODES],
+    state: &mut State,
     kids: &[u16; PART_PLACES],
-    left: &mut [u16; PAIR_PLACES],
-    right: &mut [u16; PAIR_PLACES],
-    pairqualifier: &mut [u16; PENDING_PLACES],
-    pairtype: &mut [u16; PENDING_PLACES],
-    crowded: &mut [u8; NODES],
-    n: usize,
     i: usize,
     f: usize,
     a: usize,
-) -> Verdict
-    requires fact_1 { TypeClasses (types_of typeparent.old kind.old) }
+) -> Result<(), Failure>
+    requires fact_1 { TypeClasses state.old.types }
     requires fact_2 { Parts kids.now }
-    requires fact_3 { Classes rule.now (qualifiers_of qualifierparent.old bound.old) }
+    requires fact_3 { Classes rule.now state.old.qualifiers }
     requires fact_4 { (i < 256) × (f < i) × (a < i) × Describes kids.now i (App f a) 0 0 }
-    requires fact_5 { Ready rule.now i kids.now (types_of typeparent.old kind.old) (qualifiers_of qualifierparent.old bound.old) (pending_of pairqualifier.old pairtype.old crowded.old n) }
-    ensures { Stepped rule.now i kids.now
-        (types_of typeparent.old kind.old) (qualifiers_of qualifierparent.old bound.old) (pending_of pairqualifier.old pairtype.old crowded.old n)
-        (left_of typeparent.new kind.new qualifierparent.new bound.new pairqualifier.new pairtype.new crowded.new)
+    requires fact_5 { Ready rule.now i kids.now state.old.types state.old.qualifiers (pending_in state.old.pending) }
+    ensures { Stepped rule.now i kids.now state.old.types state.old.qualifiers (pending_in state.old.pending) (left_in state.new)
         (RowHolds i (App f a) 0 0) (RowFits rule.now (App f a)) (OwnPlain i (App f a)) result }
 {
-    let function = forest::root(typeparent, layout::row_type(f));
-    let k = kind[function];
+    let function = forest::root(&mut state.types.parents, layout::row_type(f));
+    let k = state.types.kinds[function];
     if k == UNKNOWN {
-        return bind_row(
-            rule,
-            qualifierparent,
-            bound,
-            typeparent,
-            kind,
-            kids,
-            pairqualifier,
-            pairtype,
-            crowded,
-            n,
-            i,
-            function,
-            a,
-        );
+        return bind_row(rule, state, kids, i, function, a);
     }
     if k == INT {
-        return Verdict::Shapes;
+        return Err(Failure::Types(Conflict::Clash));
     }
-    call_row(
-        rule,
-        qualifierparent,
-        bound,
-        typeparent,
-        kind,
-        kids,
-        left,
-        right,
-        pairqualifier,
-        pairtype,
-        crowded,
-        n,
-        i,
-        a,
-        k as usize - FIRST_ARROW as usize,
-    )
+    call_row(rule, state, kids, i, a, k as usize - FIRST_ARROW as usize)
 }
 
-// Takes row i into the state; the arrays hold the nodes of the parameters. Types come before qualifiers, and qualifiers before bounds: 21 is before
-// 22, and 22 before 23.
+// Takes row i into the state. Types come before qualifiers, and qualifiers before bounds: 21 is before 22, and 22 before 23.
 pub fn step(
     rule: &[u8; RULE],
-    qualifierparent: &mut [u16; NODES],
-    bound: &mut [u8; NODES],
-    typeparent: &mut [u16; NODES],
-    kind: &mut [u16; NODES],
+    state: &mut State,
     kids: &[u16; PART_PLACES],
-    left: &mut [u16; PAIR_PLACES],
-    right: &mut [u16; PAIR_PLACES],
-    pairqualifier: &mut [u16; PENDING_PLACES],
-    pairtype: &mut [u16; PENDING_PLACES],
-    crowded: &mut [u8; NODES],
-    n: usize,
     i: usize,
     term: Term,
-    qualifiers: &[u8; PARAMS],
-    typerows: &[u16; PARAMS],
-) -> Verdict
-    requires fact_1 { TypeClasses (types_of typeparent.old kind.old) }
+    lines: &Lines,
+) -> Result<(), Failure>
+    requires fact_1 { TypeClasses state.old.types }
     requires fact_2 { Parts kids.now }
-    requires fact_3 { Classes rule.now (qualifiers_of qualifierparent.old bound.old) }
-    requires fact_4 { RowStands i term (node_named qualifiers.now term) (node_named typerows.now term) × Describes kids.now i term (node_named qualifiers.now term) (node_named typerows.now term) }
-    requires fact_5 { Ready rule.now i kids.now (types_of typeparent.old kind.old) (qualifiers_of qualifierparent.old bound.old) (pending_of pairqualifier.old pairtype.old crowded.old n) }
-    ensures { Stepped rule.now i kids.now
-        (types_of typeparent.old kind.old) (qualifiers_of qualifierparent.old bound.old) (pending_of pairqualifier.old pairtype.old crowded.old n)
-        (left_of typeparent.new kind.new qualifierparent.new bound.new pairqualifier.new pairtype.new crowded.new)
-        (RowHolds i term (node_named qualifiers.now term) (node_named typerows.now term)) (RowFits rule.now term) (OwnPlain i term) result }
+    requires fact_3 { Classes rule.now state.old.qualifiers }
+    requires fact_4 { RowStands i term (node_named lines.now.qualifiers term) (node_named lines.now.typerows term) × Describes kids.now i term (node_named lines.now.qualifiers term) (node_named lines.now.typerows term) }
+    requires fact_5 { Ready rule.now i kids.now state.old.types state.old.qualifiers (pending_in state.old.pending) }
+    ensures { Stepped rule.now i kids.now state.old.types state.old.qualifiers (pending_in state.old.pending) (left_in state.new)
+        (RowHolds i term (node_named lines.now.qualifiers term) (node_named lines.now.typerows term)) (RowFits rule.now term) (OwnPlain i term) result }
 {
     match term {
         Term::Lam(_, _) => {
+            let arrow = layout::arrow(layout::row_type(i));
             known_row(
-                qualifierparent,
-                kind,
+                &mut state.qualifiers.parents,
+                &mut state.types.kinds,
                 i,
                 0,
-                layout::arrow(layout::row_type(i)),
+                arrow,
             );
-            Verdict::Fine(n)
+            Ok(())
         }
-        Term::App(f, a) => app_row(
-            rule,
-            qualifierparent,
-            bound,
-            typeparent,
-            kind,
-            kids,
-            left,
-            right,
-            pairqualifier,
-            pairtype,
-            crowded,
-            n,
-            i,
-            f as usize,
-            a as usize,
-        ),
-        Term::Op(o, l, r) => op_row(
-            rule,
-            qualifierparent,
-            bound,
-            typeparent,
-            kind,
-            n,
-            i,
-            o,
-            l as usize,
-            r as usize,
-        ),
+        Term::App(f, a) => app_row(rule, state, kids, i, f as usize, a as usize),
+        Term::Op(o, l, r) => {
+            let types = &mut state.types;
+            op_row(
+                rule,
+                types,
+                &mut state.qualifiers,
+                i,
+                o,
+                l as usize,
+                r as usize,
+            )
+        }
         Term::Var(p) => {
-            forest::put_under_root(
-                typeparent,
-                layout::row_type(i),
-                typerows[p as usize] as usize,
-            );
-            forest::put_under_root(
-                qualifierparent,
-                layout::row_qualifier(i),
-                qualifiers[p as usize] as usize,
-            );
-            Verdict::Fine(n)
+            let q = lines.qualifiers[p as usize] as usize;
+            let ty = lines.typerows[p as usize] as usize;
+            forest::put_under_root(&mut state.types.parents, layout::row_type(i), ty);
+            forest::put_under_root(&mut state.qualifiers.parents, layout::row_qualifier(i), q);
+            Ok(())
         }
         // Under its own node a literal's qualifier is a class of its own.
         Term::Num(_) => {
-            known_row(qualifierparent, kind, i, layout::row_qualifier(i), INT);
-            Verdict::Fine(n)
+            let own = layout::row_qualifier(i);
+            known_row(
+                &mut state.qualifiers.parents,
+                &mut state.types.kinds,
+                i,
+                own,
+                INT,
+            );
+            Ok(())
         }
         Term::Enc(s, _) => {
-            known_row(qualifierparent, kind, i, s as usize, INT);
-            Verdict::Fine(n)
+            let scheme = s as usize;
+            known_row(
+                &mut state.qualifiers.parents,
+                &mut state.types.kinds,
+                i,
+                scheme,
+                INT,
+            );
+            Ok(())
         }
     }
 }

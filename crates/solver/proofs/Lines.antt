@@ -7,6 +7,7 @@ use mathlib.Core.Logic.{◌⊎◌, inl, inr}
 use mathlib.Core.Path.{◌≡◌, refl, sym, ap, subst, subst₂, ◌∙◌}
 use lib.ListN.{length}
 use borrow.Author.Tests.{lt-ltb}
+use Rattle.std.specs.Prelude.{⊤, Result, Ok, Err}
 use Rattle.scheme.specs.Schemes.{words}
 use Rattle.scheme.proofs.Schemes.{sound_few}
 use Rattle.layout.specs.Kinds.{int_kind}
@@ -15,17 +16,16 @@ use Rattle.model.specs.Machine.{Machine, type_at}
 use Rattle.model.specs.WellFormed.{WellFormed, TypeStands}
 use Rattle.model.specs.declared.TypeForm.{TypeForm}
 use Rattle.model.specs.declared.TypeForm.TheVariants.{Int, Any, Arrow}
-use Rattle.forest.specs.Pairs.{Notes, notes_of, left_at, right_at, PairsIn}
-use Rattle.graph.specs.Types.{types_of, kind_at, argument, result, argument_qualifier, result_qualifier}
-use Rattle.qualifiers.specs.Classes.{qualifiers_of}
+use Rattle.forest.specs.Pairs.{Notes, left_at, right_at, PairsIn}
+use Rattle.graph.specs.Types.{Types, types_of, kind_at, argument, result, argument_qualifier, result_qualifier}
+use Rattle.qualifiers.specs.Classes.{Qualifiers, qualifiers_of}
+use Rattle.qualifiers.specs.declared.Apart.{Apart}
 use Rattle.readings.specs.Standing as standing
 use Rattle.readings.specs.Standing.{Stands}
 use Rattle.setup.specs.Started.{form_kind}
-use Rattle.pending.specs.Pending.{pending_of, line_pairs, Sweeps}
+use Rattle.pending.specs.Pending.{Pending, line_pairs, Sweeps}
 use Rattle.pending.specs.Lines as lines
 use Rattle.pending.specs.Lines.{FormPair, ParamPair, Gathered, Earlier}
-use Rattle.pending.specs.declared.Sweep.{Sweep}
-use Rattle.pending.specs.declared.Sweep.TheVariants.{Kept, Apart}
 use Rattle.solver.specs.Runs.{Governed, LinesOf, Begun, Lined}
 use Rattle.solver.proofs.Start.{LinePairs, row_kind_lem, start_after, start_ready, lines_refused}
 
@@ -134,15 +134,13 @@ module _ {kids : List ℕ} {typecount : ℕ} {q ty : List ℕ} {paramcount : ℕ
         }
 
 -- The pairs of the lines of a machine, gathered and looked through.
-pub lined : {R kids q ty u k p b left₀ right₀ : List ℕ} {m : Machine} {typecount paramcount n₁ n₂ : ℕ} {N₁ : Notes} (crowded₀ left right crowded p' b' : List ℕ) (r : Sweep) →
-    Gathered (FormPair k kids typecount) k N₁ 0 n₁ × (n₁ ≤ 2 * typecount) →
-    Gathered (ParamPair q ty paramcount) k (notes_of left₀ right₀) n₁ n₂ × (n₂ ≤ n₁ + paramcount) × Earlier N₁ (notes_of left₀ right₀) n₁ →
-    LinesOf R m q ty typecount paramcount → Begun R m kids (types_of u k) (qualifiers_of p b) →
-    Sweeps R (types_of u k) (qualifiers_of p b) (qualifiers_of p' b') (pending_of left₀ right₀ crowded₀ n₂) left right crowded r →
-    Lined R m kids (types_of u k) (qualifiers_of p' b') left right crowded r
-lined {R} {kids} {q} {ty} {u} {k} {p} {b} {left₀} {right₀} {m} {n₂ = n₂} crowded₀ left right crowded p' b' r first second of begun = go r
+pub lined : {R kids q ty : List ℕ} {T : Types} {Q : Qualifiers} {m : Machine} {typecount paramcount n₁ : ℕ} {N₁ : Notes} (P : Pending) (Q' : Qualifiers) (P' : Pending) (r : Result ⊤ Apart) →
+    Gathered (FormPair T.kinds kids typecount) T.kinds N₁ 0 n₁ × (n₁ ≤ 2 * typecount) →
+    Gathered (ParamPair q ty paramcount) T.kinds P.pairs n₁ P.count × (P.count ≤ n₁ + paramcount) × Earlier N₁ P.pairs n₁ →
+    LinesOf R m q ty typecount paramcount → Begun R m kids T Q → Sweeps R T Q Q' P P' r → Lined R m kids T Q' P' r
+lined {R} {kids} {q} {ty} {T} {Q} {m} P Q' P' r first second of begun = go r
   where
-    pairs : LinePairs m k (pending_of left₀ right₀ crowded₀ n₂)
+    pairs : LinePairs m T.kinds P
     pairs =
         record {
           few = few first second of begun;
@@ -151,9 +149,9 @@ lined {R} {kids} {q} {ty} {u} {k} {p} {b} {left₀} {right₀} {m} {n₂ = n₂}
           complete = λ s x stands. line_complete first second s x (of_stands first second of begun s x stands);
         }
 
-    go : (r : Sweep) → Sweeps R (types_of u k) (qualifiers_of p b) (qualifiers_of p' b') (pending_of left₀ right₀ crowded₀ n₂) left right crowded r → Lined R m kids (types_of u k) (qualifiers_of p' b') left right crowded r
-    go (Kept n) swept = (
+    go : (r : Result ⊤ Apart) → Sweeps R T Q Q' P P' r → Lined R m kids T Q' P' r
+    go (Ok x) swept = (
       start_after of.governed begun.described begun.started pairs swept,
       start_ready of.governed begun.described begun.started pairs swept,
     )
-    go Apart apart = lines_refused of.governed begun.described begun.started pairs of.some apart
+    go (Err e) apart = lines_refused of.governed begun.described begun.started pairs of.some apart

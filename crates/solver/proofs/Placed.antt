@@ -15,8 +15,7 @@ use Rattle.readings.specs.Programs.{Counted, Holds, machine_of}
 use Rattle.readings.proofs.Greatest.{solved_greatest}
 use Rattle.report.specs.declared.Codes.{Codes}
 use Rattle.slots.specs.Filled.{Filled}
-use Rattle.solver.specs.Runs.{Governed, Completed, Solves}
-use Rattle.solver.specs.declared.Answer.TheVariants.{Placed}
+use Rattle.solver.specs.Runs.{Governed, Completed, Placed}
 use Rattle.solver.proofs.Solving.{state_solved}
 
 -- What the typings give is the same in other words for the same slots.
@@ -46,7 +45,7 @@ held T program size few =
     record { types = refl; params = refl; terms = refl; rows = length-take program.termcount program.terms ∙ omega (arith, few.terms) }
 
 pub placed : {R : List ℕ} {m : Machine} {u k p b : List ℕ} (b' k' : List ℕ) {rows : ℕ} {codes : Codes} → Governed R m → rows ≡ length m.terms →
-    Completed R m (types_of u k) (qualifiers_of p b) rows → Greatest R (qualifiers_of p b) (bound_at b') → KindsSettled (types_of u k) k' → Filled m (bound_at b') (kind_at k') codes → Solves m codes Placed
+    Completed R m (types_of u k) (qualifiers_of p b) rows → Greatest R (qualifiers_of p b) (bound_at b') → KindsSettled (types_of u k) k' → Filled m (bound_at b') (kind_at k') codes → Placed m codes
 placed {R} {m} {u} {k} {p} {b} b' k' gov whole done g settled filled =
     let all = completed whole done in
     let solved = state_solved m gov all.kids u all.kinds p b k k' all.pending (bound_at b') all.parts all.ended g settled in

@@ -1,5 +1,5 @@
 -- What the solver's functions answer, said by typings alone where they leave the state.
-use Rattle.std.specs.Prelude.{ℕ, ◌+◌, ◌<◌, List, ◌≡◌, length}
+use Rattle.std.specs.Prelude.{ℕ, ◌+◌, ◌<◌, List, ◌≡◌, length, ⊤, Result, Ok, Err}
 use Rattle.scheme.specs.Rule.{Ruled, top_at}
 use Rattle.model.specs.Machine.{Machine, term_in, term_at}
 use Rattle.model.specs.WellFormed.{WellFormed}
@@ -15,9 +15,8 @@ use Rattle.qualifiers.specs.Classes.{Qualifiers}
 use Rattle.setup.specs.Descriptors.{Described}
 use Rattle.setup.specs.Started.{Started}
 use Rattle.setup.specs.Passes.{ParamsNoted, KindsNoted}
-use Rattle.pending.specs.Pending.{Pending, pending_of}
-use Rattle.pending.specs.declared.Sweep.{Sweep}
-use Rattle.pending.specs.declared.Sweep.TheVariants.{Kept, Apart}
+use Rattle.qualifiers.specs.declared.Apart.{Apart}
+use Rattle.pending.specs.Pending.{Pending}
 use Rattle.pending.specs.Shapes.{Fixed}
 use Rattle.rows.specs.Steps.{Ready}
 use Rattle.report.specs.Codes.{coded_word, coded_shape}
@@ -26,8 +25,7 @@ use Rattle.report.specs.Written.{Matches}
 use Rattle.solver.specs.State.{After}
 use Rattle.solver.specs.declared.Turn.{Turn}
 use Rattle.solver.specs.declared.Turn.TheVariants.{Next, Whole, Least, Stopped}
-use Rattle.solver.specs.declared.Answer.{Answer}
-use Rattle.solver.specs.declared.Answer.TheVariants.{Placed, Refused}
+use Rattle.solver.specs.declared.Refused.{Refused}
 
 -- R is the ruling of a well-formed machine.
 pub record Governed (R : List ℕ) (m : Machine) : Type 0 where
@@ -40,14 +38,14 @@ Fails m number k = ¬ Typable (whole (ruling m)) m (k + 1) × Cause (ruling m) m
 
 -- A run that ends at a row: with the number where every type is finite, and without one where there is no reading.
 abbrev pub Halts : Types → List ℕ → ℕ → Turn → Type 0
-Halts T kids number (Next n) = ⊥
+Halts T kids number Next = ⊥
 Halts T kids number Whole = ⊥
 Halts T kids number (Least n) = (n ≡ number) × ((x : ℕ) → x < nodes → Finite T kids x)
 Halts T kids number Stopped = (t : ℕ → Ty ℕ) (v : ℕ → ℕ) → Reads T kids t v → ⊥
 
 -- The test at the end: every type is finite, and the shapes are fixed; or there is no reading.
 abbrev pub Finishes : (R kids u k k' : List ℕ) (Q : Qualifiers) (P : Pending) → Turn → Type 0
-Finishes R kids u k k' Q P (Next n) = ⊥
+Finishes R kids u k k' Q P Next = ⊥
 Finishes R kids u k k' Q P Whole = ((x : ℕ) → x < nodes → Finite (types_of u k) kids x) × Fixed R u k k' Q P
 Finishes R kids u k k' Q P (Least n) = ⊥
 Finishes R kids u k k' Q P Stopped = (t : ℕ → Ty ℕ) (v : ℕ → ℕ) → Reads (types_of u k) kids t v → ⊥
@@ -77,12 +75,12 @@ pub record RowOf (R : List ℕ) (m : Machine) (q ty : List ℕ) (i : ℕ) (term 
 
 -- After row i's turn in a run over so many rows: the state is the one after it, and there are more; or all are taken; or it is the least row that
 -- leaves no typing, or some such row.
-abbrev pub TurnAnswers : (R : List ℕ) (m : Machine) (kids : List ℕ) (T : Types) (Q : Qualifiers) (left right crowded : List ℕ) (i rows : ℕ) → Turn → Type 0
-TurnAnswers R m kids T Q left right crowded i rows (Next n) =
-    (i + 1 < rows) × After R m kids T Q (pending_of left right crowded n) (i + 1) × Ready R (i + 1) kids T Q (pending_of left right crowded n)
-TurnAnswers R m kids T Q left right crowded i rows Whole = Typable (whole (ruling m)) m rows × Completed R m T Q rows
-TurnAnswers R m kids T Q left right crowded i rows (Least number) = Refusal (ruling m) m number i
-TurnAnswers R m kids T Q left right crowded i rows Stopped = Fails m 21 i
+abbrev pub TurnAnswers : (R : List ℕ) (m : Machine) (kids : List ℕ) (T : Types) (Q : Qualifiers) (P : Pending) (i rows : ℕ) → Turn → Type 0
+TurnAnswers R m kids T Q P i rows Next =
+    (i + 1 < rows) × After R m kids T Q P (i + 1) × Ready R (i + 1) kids T Q P
+TurnAnswers R m kids T Q P i rows Whole = Typable (whole (ruling m)) m rows × Completed R m T Q rows
+TurnAnswers R m kids T Q P i rows (Least number) = Refusal (ruling m) m number i
+TurnAnswers R m kids T Q P i rows Stopped = Fails m 21 i
 
 -- The descriptors are still those of every machine that has the row.
 abbrev pub StillDescribed : (R q ty : List ℕ) (i : ℕ) (term : Term) (kids kids' : List ℕ) → Type 0
@@ -101,10 +99,14 @@ pub record Begun (R : List ℕ) (m : Machine) (kids : List ℕ) (T : Types) (Q :
   pub described : Described m kids
   pub started : Started m (top_at R) T Q
 
--- After the lines: the state stands for no row yet; or they alone have no typing.
-abbrev pub Lined : (R : List ℕ) (m : Machine) (kids : List ℕ) (T : Types) (Q : Qualifiers) (left right crowded : List ℕ) → Sweep → Type 0
-Lined R m kids T Q left right crowded (Kept n) = After R m kids T Q (pending_of left right crowded n) 0 × Ready R 0 kids T Q (pending_of left right crowded n)
-Lined R m kids T Q left right crowded Apart = Refusal (ruling m) m 22 0
+-- After the lines the state stands for no row yet.
+abbrev pub AfterLines : (R : List ℕ) (m : Machine) (kids : List ℕ) (T : Types) (Q : Qualifiers) (P : Pending) → Type 0
+AfterLines R m kids T Q P = After R m kids T Q P 0 × Ready R 0 kids T Q P
+
+-- It does; or the lines alone have no typing.
+abbrev pub Lined : (R : List ℕ) (m : Machine) (kids : List ℕ) (T : Types) (Q : Qualifiers) (P : Pending) → Result ⊤ Apart → Type 0
+Lined R m kids T Q P (Ok x) = AfterLines R m kids T Q P
+Lined R m kids T Q P (Err e) = Refusal (ruling m) m 22 0
 
 -- The arrays hold all of the machine: its lines, the kinds of its type rows, and its rows.
 pub record Held (R : List ℕ) (m : Machine) (kinds q ty : List ℕ) (terms : List TermRow) (typecount paramcount termcount : ℕ) : Type 0 where
@@ -114,11 +116,15 @@ pub record Held (R : List ℕ) (m : Machine) (kinds q ty : List ℕ) (terms : Li
   pub same_term : (i : ℕ) → i < termcount → term_at m i ≡ term_in terms i
 
 -- All rows are taken, or the least one that leaves no typing is told.
-abbrev pub RowsTaken : (R : List ℕ) (m : Machine) (T : Types) (Q : Qualifiers) (termcount : ℕ) → Answer → Type 0
-RowsTaken R m T Q termcount Placed = Completed R m T Q termcount
-RowsTaken R m T Q termcount (Refused number row) = Refusal (ruling m) m number row
+abbrev pub RowsTaken : (R : List ℕ) (m : Machine) (T : Types) (Q : Qualifiers) (termcount : ℕ) → Result ⊤ Refused → Type 0
+RowsTaken R m T Q termcount (Ok x) = Completed R m T Q termcount
+RowsTaken R m T Q termcount (Err refused) = Refusal (ruling m) m refused.number refused.row
 
--- The program is placed, with its words and shapes in the codes; or refused at the least row.
-abbrev pub Solves : Machine → Codes → Answer → Type 0
-Solves m codes Placed = GreatestTyping (ruling m) m (coded_word codes) (coded_shape codes) × Matches m codes (length m.params) (length m.terms)
-Solves m codes (Refused number row) = Refusal (ruling m) m number row
+-- The program is placed, with its words and shapes in the codes.
+abbrev pub Placed : Machine → Codes → Type 0
+Placed m codes = GreatestTyping (ruling m) m (coded_word codes) (coded_shape codes) × Matches m codes (length m.params) (length m.terms)
+
+-- It is; or it is refused at the least row.
+abbrev pub Solves : Machine → Result Codes Refused → Type 0
+Solves m (Ok codes) = Placed m codes
+Solves m (Err refused) = Refusal (ruling m) m refused.number refused.row

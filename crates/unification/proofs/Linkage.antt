@@ -3,7 +3,6 @@ use mathlib.Core.Bool.{true}
 use prog.Linked.{Tree, World, Holds, in_world}
 use prog.LinkedThreads.{HasT}
 use Rattle.unification.proofs.make_int.Symbol as make_int
-use Rattle.unification.proofs.note.Symbol as note
 use Rattle.unification.proofs.unify.Symbol as unify
 use Rattle.unification.proofs.TheLink as link
 
@@ -15,9 +14,6 @@ Below = link.Below
 
 pub linked_make_int : (W : World) → Holds W "unification" table → Below W → HasT (in_world W) true make_int.code
 linked_make_int = link.linked-unification::make_int
-
-pub linked_note : (W : World) → Holds W "unification" table → Below W → HasT (in_world W) true note.code
-linked_note = link.linked-unification::note
 
 pub linked_unify : (W : World) → Holds W "unification" table → Below W → HasT (in_world W) true unify.code
 linked_unify = link.linked-unification::unify

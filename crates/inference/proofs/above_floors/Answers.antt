@@ -9,10 +9,10 @@ pub lowest_missed-requires : goal.lowest_missed-requires
 lowest_missed-requires c = let counted = c.parameters.ensures in
     record { fact_1 = rule_lattice (ready_governed c.args.table c.requires.0); fact_2 = (counted.1, codes_worded c.args.table c.requires.0 _ c.requires.2 _ counted.0) }
 
-pub returns-in-At : goal.returns-in-At
-returns-in-At c = let missed = one_missed c.args.table c.requires.0 _ c.requires.2 _ c.parameters.ensures.0 _ (rw c.in-At.is at c.lowest_missed.ensures) in
+pub returns-in-Some : goal.returns-in-Some
+returns-in-Some c = let missed = one_missed c.args.table c.requires.0 _ c.requires.2 _ c.parameters.ensures.0 _ (rw c.in-Some.is at c.lowest_missed.ensures) in
     judges_missed c.requires.1 c.requires.2 missed refl
 
-pub returns-in-Nowhere : goal.returns-in-Nowhere
-returns-in-Nowhere c = let met = every_met c.args.table c.requires.0 _ c.requires.2 _ c.parameters.ensures.0 (rw c.in-Nowhere.is at c.lowest_missed.ensures) in
-    judges_accepted c.requires.1 c.requires.2 met refl
+pub returns-in-None : goal.returns-in-None
+returns-in-None c = let met = every_met c.args.table c.requires.0 _ c.requires.2 _ c.parameters.ensures.0 (rw c.in-None.is at c.lowest_missed.ensures) in
+    judges_accepted c.requires.1 c.requires.2 met

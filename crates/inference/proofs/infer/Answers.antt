@@ -1,13 +1,14 @@
 -- Each exit of `infer` is one answer.
+use native.Mathlib.Omega.{arith}
 use mathlib.Core.Path.{refl}
 use Rattle.inference.proofs.Judging.{short_refused, judged_refused, report_written}
 use Rattle.inference.proofs.infer.Goals as goal
 
 pub returns-then-buffer-lt-REPORT : goal.returns-then-buffer-lt-REPORT
-returns-then-buffer-lt-REPORT c = short_refused _ _ _ c.if-buffer-lt-REPORT.true c.refusal.ensures
+returns-then-buffer-lt-REPORT c = (short_refused _ _ _ c.if-buffer-lt-REPORT.true refl, omega arith)
 
-pub returns-then-verdict-ne0 : goal.returns-then-verdict-ne0
-returns-then-verdict-ne0 c = judged_refused _ _ _ c.if-buffer-lt-REPORT.false _ c.judge-verdict.ensures c.if-verdict-ne0.true c.refusal-then-verdict-ne0.ensures
+pub returns-in-Ok : goal.returns-in-Ok
+returns-in-Ok c = (report_written _ _ _ c.if-buffer-lt-REPORT.false c.in-Ok.ensures _ _ _ _ _ refl refl refl c.write.ensures, tt)
 
-pub returns : goal.returns
-returns c = report_written _ _ _ c.if-buffer-lt-REPORT.false _ c.judge-verdict.ensures _ _ _ _ _ c.if-verdict-ne0.false refl refl refl c.write-size.ensures (refl, refl, refl)
+pub returns-in-Err : goal.returns-in-Err
+returns-in-Err c = (judged_refused _ _ _ c.if-buffer-lt-REPORT.false c.in-Err.ensures, omega (arith, c.in-Err.ensures.0))

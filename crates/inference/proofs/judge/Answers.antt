@@ -4,13 +4,13 @@ use Rattle.inference.proofs.Judging.{judges_open, judges_untypable}
 use Rattle.inference.proofs.judge.Goals as goal
 
 pub returns-then-not-is_closed : goal.returns-then-not-is_closed
-returns-then-not-is_closed c = judges_open _ c.is_closed.ensures c.if-not-is_closed.true refl refl
+returns-then-not-is_closed c = judges_open _ c.is_closed.ensures c.if-not-is_closed.true refl
 
-pub solve-solved-requires : goal.solve-solved-requires
-solve-solved-requires c = (c.requires, (c.is_closed.ensures.closed c.if-not-is_closed.false).some_row)
+pub solve-requires : goal.solve-requires
+solve-requires c = (c.requires, (c.is_closed.ensures.closed c.if-not-is_closed.false).some_row)
 
 pub above_floors-requires : goal.above_floors-requires
-above_floors-requires c = (c.requires, c.is_closed.ensures.closed c.if-not-is_closed.false, rw c.in-Placed.is at c.solve-solved.ensures)
+above_floors-requires c = (c.requires, c.is_closed.ensures.closed c.if-not-is_closed.false, c.in-Ok.ensures)
 
-pub returns-in-Refused : goal.returns-in-Refused
-returns-in-Refused c = judges_untypable (c.is_closed.ensures.closed c.if-not-is_closed.false) (rw c.in-Refused.is at c.solve-solved.ensures) refl refl
+pub returns-in-Err : goal.returns-in-Err
+returns-in-Err c = judges_untypable (c.is_closed.ensures.closed c.if-not-is_closed.false) c.in-Err.ensures

@@ -1,10 +1,7 @@
--- `occurs::settle`: the invariant is what Settling says of the nodes passed.
-use Prim.Native.Nat.{◌-◌}
+-- `occurs::settle`: the parents stay, and the kinds are what Settling says of the nodes passed.
+use Rattle.std.specs.Prelude.{◌≡◌}
 use Rattle.occurs.proofs.Settling.{Settling}
 use Rattle.occurs.proofs.settle.Given as goal
 
 abbrev pub invariant-loop-node : goal.invariant-loop-node
-invariant-loop-node l = Settling l.typeparent l.initial.kind l.kind l.node
-
-abbrev pub decreases-loop-node : goal.decreases-loop-node
-decreases-loop-node l = l.count - l.node
+invariant-loop-node l = (l.types.parents ≡ l.initial.types.parents) × Settling l.initial.types.parents l.initial.types.kinds l.types.kinds l.node

@@ -3,46 +3,11 @@ use native.Mathlib.Omega.{arith}
 use Rattle.rows.proofs.Rows.{row_int, row_literal, row_same, row_arrow}
 use Rattle.rows.proofs.step.Goals as goal
 
-pub app_row-requires : goal.app_row-requires
-app_row-requires c = let row = c.requires.fact_4 in
-    let is = c.in-App.is in
-    let stands = rw is at row.0.stands in
-    record { fact_1 = c.requires.fact_1; fact_2 = c.requires.fact_2; fact_3 = c.requires.fact_3; fact_4 = (row.0.in_list, stands.0, stands.1, rw is at row.1); fact_5 = c.requires.fact_5 }
-
-pub op_row-requires : goal.op_row-requires
-op_row-requires c = let row = c.requires.fact_4 in
-    let stands = rw c.in-Op.is at row.0.stands in
-    record { fact_1 = c.requires.fact_1; fact_2 = c.requires.fact_3; fact_3 = (row.0.in_list, stands.1, stands.2, stands.0); fact_4 = c.requires.fact_5.qualifiers }
-
-pub bounds-typerows-p : goal.bounds-typerows-p
-bounds-typerows-p c = let row = c.requires.fact_4 in
-    rw c.in-Var.is at row.0.stands
-
-pub overflow_cast-typerows : goal.overflow_cast-typerows
-overflow_cast-typerows c = let row = c.requires.fact_4 in
-    omega (arith, rw c.in-Var.is at row.0.type_node)
-
-pub put_under_root-requires : goal.put_under_root-requires
-put_under_root-requires c = let row = c.requires.fact_4 in
-    (c.requires.fact_1.forest, omega (arith, row.0.in_list, c.row_type-in-Var.ensures, rw c.in-Var.is at row.0.type_node))
-
-pub bounds-qualifiers-p : goal.bounds-qualifiers-p
-bounds-qualifiers-p c = let row = c.requires.fact_4 in
-    rw c.in-Var.is at row.0.stands
-
-pub overflow_cast-qualifiers : goal.overflow_cast-qualifiers
-overflow_cast-qualifiers c = let row = c.requires.fact_4 in
-    omega (arith, rw c.in-Var.is at row.0.is_qualifier_node)
-
-pub put_under_root-requires-in-Var : goal.put_under_root-requires-in-Var
-put_under_root-requires-in-Var c = let row = c.requires.fact_4 in
-    (c.requires.fact_3.forest, omega (arith, row.0.in_list, c.row_qualifier.ensures, rw c.in-Var.is at row.0.is_qualifier_node))
-
 pub returns-in-Lam : goal.returns-in-Lam
 returns-in-Lam c = let row = c.requires.fact_4 in
     let is = c.in-Lam.is in
     let stands = rw is at row.0.stands in
-    let known = rw (c.arrow.ensures, c.row_type.ensures) at c.known_row.ensures in
+    let known = rw (c.arrow-arrow.ensures, c.row_type.ensures) at c.known_row.ensures in
     rw is
     (row_arrow row.0.in_list c.requires.fact_1 c.requires.fact_3 c.requires.fact_5 known (rw is at row.1) (omega (arith, rw is at row.0.is_qualifier_node)) (omega (arith, rw is at row.0.type_node)) (omega (arith, stands.1)) (omega (arith, stands.1)))
 
@@ -50,7 +15,7 @@ pub returns-in-App : goal.returns-in-App
 returns-in-App c = rw c.in-App.is c.app_row.ensures
 
 pub returns-in-Op : goal.returns-in-Op
-returns-in-Op c = rw c.in-Op.is (c.op_row.ensures _ _ _ _ c.requires.fact_5)
+returns-in-Op c = rw c.in-Op.is (c.op_row.ensures _ _ c.requires.fact_5)
 
 pub returns-in-Var : goal.returns-in-Var
 returns-in-Var c = let row = c.requires.fact_4 in
@@ -61,7 +26,7 @@ returns-in-Var c = let row = c.requires.fact_4 in
 
 pub returns-in-Num : goal.returns-in-Num
 returns-in-Num c = let row = c.requires.fact_4 in
-    let known = rw c.row_qualifier-in-Num.ensures at c.known_row-in-Num.ensures in
+    let known = rw c.row_qualifier-own.ensures at c.known_row-in-Num.ensures in
     rw c.in-Num.is (row_literal row.0.in_list c.requires.fact_1 c.requires.fact_3 c.requires.fact_5 known)
 
 pub returns-in-Enc : goal.returns-in-Enc

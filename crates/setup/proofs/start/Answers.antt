@@ -4,10 +4,11 @@ use Rattle.setup.proofs.Starting.{started}
 use Rattle.setup.proofs.start.Goals as goal
 
 pub returns : goal.returns
-returns c = started
+returns c =
+    started
     c.args.formkinds.now
     c.args.top
-    c.self_rooted-2.ensures
-    c.first_kinds.ensures
-    c.self_rooted.ensures
+    c.self_rooted-types.ensures
+    c.first_kinds-types.ensures
+    c.self_rooted-qualifiers.ensures
     (search rules)

@@ -4,7 +4,7 @@ use Rattle.graph.specs.Types.{roots}
 use Rattle.unification.proofs.+unify_unify_arrows.Given as goal
 
 abbrev pub decreases-unify : goal.decreases-unify
-decreases-unify l = 2 * roots l.typeparent.now
+decreases-unify l = 2 * roots l.types.now.parents
 
 abbrev pub decreases-unify_arrows : goal.decreases-unify_arrows
-decreases-unify_arrows l = 2 * roots l.typeparent.now + 1
+decreases-unify_arrows l = 2 * roots l.types.now.parents + 1

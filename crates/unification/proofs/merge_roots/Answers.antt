@@ -2,7 +2,7 @@
 use native.Mathlib.Omega.{arith}
 use mathlib.Core.Logic.{inl, inr}
 use mathlib.Core.Path.{refl, sym}
-use Rattle.unification.proofs.Merging.{apart_int, apart_arrow, merged_one, merged_arrows}
+use Rattle.unification.proofs.Merging.{merged_one, merged_arrows}
 use Rattle.unification.proofs.merge_roots.Goals as goal
 
 pub returns-then-k-eq-UNKNOWN : goal.returns-then-k-eq-UNKNOWN
@@ -19,22 +19,6 @@ pub returns-then-k-l : goal.returns-then-k-l
 returns-then-k-l c =
     let m = merged_one c.requires.fact_1 c.requires.fact_2 (inl refl) c.link-then-k-l.ensures (inr refl) (inr (sym c.if-k-l.true)) in
     record { fact_1 = m.0; fact_2 = m.1.0; fact_3 = m.1.1 }
-
-pub returns-then-k-eq-INT : goal.returns-then-k-eq-INT
-returns-then-k-eq-INT c =
-    let m = apart_int c.requires.fact_1 c.args.low c.args.high (omega arith) (omega arith) c.if-k-eq-INT.true (omega arith) in
-    record { fact_1 = m.0; fact_2 = m.1.0; fact_3 = m.1.1 }
-
-pub returns-then-l-eq-INT : goal.returns-then-l-eq-INT
-returns-then-l-eq-INT c =
-    let m = apart_arrow c.requires.fact_1 c.args.low c.args.high (omega arith) (omega arith) (omega arith) c.if-l-eq-INT.true in
-    record { fact_1 = m.0; fact_2 = m.1.0; fact_3 = m.1.1 }
-
-pub overflow_cast-result : goal.overflow_cast-result
-overflow_cast-result c = omega (arith, c.requires.fact_1.kinds c.args.low (omega arith))
-
-pub overflow_cast-result-3 : goal.overflow_cast-result-3
-overflow_cast-result-3 c = omega (arith, c.requires.fact_1.kinds c.args.high (omega arith))
 
 pub returns : goal.returns
 returns c =
