@@ -2,3 +2,4 @@ pub mod Close
 pub mod Contexts
 pub mod Turns
 pub mod Weights
+pub mod Stacking

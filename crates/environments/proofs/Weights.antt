@@ -3,20 +3,20 @@ use Prim.Native.Nat.{ℕ, zero, suc, ◌+◌, ◌-◌, ◌*◌, ◌≤◌, ◌<�
 use native.Mathlib.Omega.{arith}
 use native.Mathlib.Decide.{ℕ_discrete}
 use native.Mathlib.Nat.{suc-mul}
-use mathlib.Core.Bool.{Bool, true, false}
-use mathlib.Core.List.{List}
+use mathlib.Core.List.{List, ◌∷◌}
 use mathlib.Core.Path.{◌≡◌, refl, ap, ap₂}
-use lib.ListN.{length, get_or}
-use borrow.Author.Tests.{ne_eqb, lt-ltb, le-ltb}
+use lib.ListN.{length}
 use Rattle.model.specs.Machine.{Machine}
 use Rattle.model.specs.WellFormed.{WellFormed}
 use Rattle.model.specs.Inference.{Slot}
 use Rattle.dryrun.specs.Run.{Counts, steps, most_contexts}
 use Rattle.dryrun.specs.Expression.{Expression}
-use Rattle.environments.specs.Kinds.{number_kind}
-use Rattle.environments.specs.Standing.{Cells, Frames, Frame, Stack, bottom, on_argument, on_called, on_right, on_number, on_left, Control, a_row, a_value, Standing}
-use Rattle.environments.specs.Weights.{weight, control_weight, frame_weight, frames_weight, point_weight, span, remaining}
-use Rattle.environments.proofs.Turns.{Below}
+use Rattle.environments.specs.Standing.{Context, Stack, bottom, on_argument, on_called, on_right, on_left, Control, a_row, a_value, Standing}
+use Rattle.environments.specs.Weights.{weight, control_weight, waiting_weight, frame_weight, frames_weight, point_weight, span, remaining}
+use Rattle.environments.specs.declared.Datum.{Datum}
+use Rattle.environments.specs.declared.Focus.{Focus}
+use Rattle.environments.specs.declared.Frame.{Frame}
+use Rattle.environments.specs.declared.Cell.{Cell}
 
 weight_some : (i : ℕ) → 3 ≤ weight i
 unfolding weight
@@ -32,81 +32,53 @@ weight_below (suc i) c h = go (ℕ_discrete c i) (λ low. weight_below i c low)
     go (yes e) rest = omega (arith, ap weight e)
     go (no e) rest = omega (arith, rest (omega arith))
 
--- What a frame weighs, by its kind.
-waits_weight : (kind value : ℕ) → kind < number_kind → frame_weight kind value ≡ weight value + 1
-waits_weight kind value h = rw (lt-ltb kind number_kind h) refl
+-- What waits weighs at least as much as when it is looked at.
+waiting_enough : (k : Focus) → control_weight k ≤ waiting_weight k
+waiting_enough (Focus.Row i place) = omega arith
+waiting_enough (Focus.Datum v) = omega arith
 
-number_weight : (kind value : ℕ) → kind ≡ number_kind → frame_weight kind value ≡ 1
-number_weight kind value h = rw h refl
-
-holds_weight : (kind value : ℕ) → number_kind < kind → frame_weight kind value ≡ 0
-holds_weight kind value h = rw (le-ltb kind number_kind (omega arith), ne_eqb kind number_kind (λ e. let z : ⊥ = omega arith in z)) refl
-
--- The frames below stay, and so does their weight.
-below_weight : {f f' : Frames} (d top : ℕ) → Below f f' top → d ≤ top → frames_weight f d ≡ frames_weight f' d
-unfolding frames_weight
-below_weight zero top same h = refl
-below_weight (suc d) top same h =
-    ap₂ ◌+◌ (below_weight d top same (omega arith)) (ap₂ frame_weight (same.kind d (omega arith)) (same.value d (omega arith)))
-
-module _ (f : Frames) where
+module _ (f : List Frame) where
   -- LAM, VAR, NUM, ENC: a value for a row.
-  pub value_lighter : (i n depth : ℕ) → point_weight f true n depth < point_weight f false i depth
-  value_lighter i n depth = omega (arith, weight_some i)
+  pub value_lighter : (i place : ℕ) (v : Datum) → point_weight f (Focus.Datum v) < point_weight f (Focus.Row i place)
+  value_lighter i place v = omega (arith, weight_some i)
 
   -- APP and OP: a row, under a frame that waits for another.
-  pub pushed_lighter : {f' : Frames} (i x a d kind : ℕ) → x < i → a < i → Below f f' d → get_or f'.kind d 0 ≡ kind → kind < number_kind → get_or f'.value d 0 ≡ a →
-      point_weight f' false x (suc d) < point_weight f false i d
+  pub pushed_lighter : (new : Frame) (i x a place : ℕ) → x < i → a < i → frame_weight new ≡ weight a + 1 → point_weight (new ∷ f) (Focus.Row x place) < point_weight f (Focus.Row i place)
   unfolding frames_weight
-  pushed_lighter {f'} i x a d kind hx ha same ek low ev =
-      let own = waits_weight (get_or f'.kind d 0) (get_or f'.value d 0) (omega arith) in
-      let other : weight (get_or f'.value d 0) ≡ weight a = ap weight ev in
-      omega (arith, own, other, below_weight {f = f} {f' = f'} d d same (omega arith), weight_below i x hx, weight_below i a ha, weight_some x)
+  pushed_lighter new i x a place hx ha own = omega (arith, own, weight_below i x hx, weight_below i a ha, weight_some x)
 
   -- A frame that waits gets its value, and what it had waiting is looked at.
-  pub turned_lighter : {f' : Frames} (n d : ℕ) → Below f f' d → get_or f.kind d 0 < number_kind → number_kind < get_or f'.kind d 0 →
-      point_weight f' false (get_or f.value d 0) (suc d) < point_weight f true n (suc d)
+  pub turned_lighter : (top new : Frame) (k : Focus) (v : Datum) → frame_weight top ≡ waiting_weight k → frame_weight new ≡ 0 → point_weight (new ∷ f) k < point_weight (top ∷ f) (Focus.Datum v)
   unfolding frames_weight
-  turned_lighter {f'} n d same low high =
-      omega (arith, waits_weight (get_or f.kind d 0) (get_or f.value d 0) low, holds_weight (get_or f'.kind d 0) (get_or f'.value d 0) high, below_weight {f = f} {f' = f'} d d same (omega arith))
-
-  pub number_lighter : {f' : Frames} (n n' d : ℕ) → Below f f' d → get_or f.kind d 0 ≡ number_kind → number_kind < get_or f'.kind d 0 →
-      point_weight f' true n' (suc d) < point_weight f true n (suc d)
-  unfolding frames_weight
-  number_lighter {f'} n n' d same is high =
-      omega (arith, number_weight (get_or f.kind d 0) (get_or f.value d 0) is, holds_weight (get_or f'.kind d 0) (get_or f'.value d 0) high, below_weight {f = f} {f' = f'} d d same (omega arith))
+  turned_lighter top new k v waits holds = omega (arith, waits, holds, waiting_enough k)
 
 module _ (m : Machine) (w : WellFormed m) (word : Slot → ℕ) where
   row_light : (i : ℕ) → i < length m.terms → 3 * weight i ≤ weight 256
   row_light i h = weight_below 256 i (omega (arith, w.terms_fit))
 
-  frame_light : (kind value : ℕ) → value < length m.terms → kind < number_kind → frame_weight kind value ≤ weight 256
-  frame_light kind value h low = omega (arith, waits_weight kind value low, row_light value h, weight_some value)
+  control_light : {c : List Cell} {count : ℕ} {k : Focus} {e : Expression} → Control m word c count k e → (control_weight k ≤ weight 256) × (waiting_weight k ≤ weight 256)
+  control_light (a_row {i = i} h binds) = (omega (arith, row_light i h), omega (arith, row_light i h, weight_some i))
+  control_light (a_value means) = (omega (arith, weight_some 256), omega (arith, weight_some 256))
 
   -- The frames of a run are lighter than the span of so many.
-  stack_light : {c : Cells} {count : ℕ} {f : Frames} {d : ℕ} {R : List Frame} → Stack m word c count f d R → frames_weight f d + weight 256 + 1 ≤ span d
+  stack_light : {c : List Cell} {count : ℕ} {f : List Frame} {R : List Context} → Stack m word c count f R → frames_weight f + weight 256 + 1 ≤ span (length f)
   unfolding frames_weight span
   stack_light bottom = omega arith
-  stack_light {f = f} (on_argument {d} k h b s) = omega (arith, stack_light s, frame_light (get_or f.kind d 0) (get_or f.value d 0) h (omega arith))
-  stack_light {f = f} (on_called {d} k v s) = omega (arith, stack_light s, holds_weight (get_or f.kind d 0) (get_or f.value d 0) (omega arith))
-  stack_light {f = f} (on_right {d} k five h b s) = omega (arith, stack_light s, frame_light (get_or f.kind d 0) (get_or f.value d 0) h (omega arith))
-  stack_light {f = f} (on_number {d} k t s) = omega (arith, stack_light s, number_weight (get_or f.kind d 0) (get_or f.value d 0) k, weight_some 256)
-  stack_light {f = f} (on_left {d} k five v s) = omega (arith, stack_light s, holds_weight (get_or f.kind d 0) (get_or f.value d 0) (omega arith))
-
-  control_light : {c : Cells} {count tag n place : ℕ} {value? : Bool} {e : Expression} → Control m word c count value? tag n place e → control_weight value? n ≤ weight 256
-  control_light (a_row {i = i} h binds) = omega (arith, row_light i h)
-  control_light (a_value means) = omega (arith, weight_some 256)
+  stack_light (on_argument k s) = omega (arith, stack_light s, (control_light k).1)
+  stack_light (on_called v s) = omega (arith, stack_light s)
+  stack_light (on_right five k s) = omega (arith, stack_light s, (control_light k).1)
+  stack_light (on_left five v s) = omega (arith, stack_light s)
 
   span_more : (d k : ℕ) → span d ≤ span (d + k)
   unfolding span
   span_more d zero = let e : d ≡ d + 0 = omega arith in omega (arith, ap span e)
   span_more d (suc k) = let e : d + suc k ≡ suc (d + k) = omega arith in omega (arith, span_more d k, ap span e)
 
-  pub standing_light : {budget : ℕ} {start : Expression} {c : Cells} {f : Frames} {value? : Bool} {tag n place depth : ℕ} {made : Counts} →
-      Standing m word budget start c f value? tag n place depth made → depth ≤ suc most_contexts → point_weight f value? n depth < span (suc most_contexts)
-  standing_light {depth = depth} st low =
-      let whole : depth + (suc most_contexts - depth) ≡ suc most_contexts = omega arith in
-      omega (arith, stack_light st.stack, control_light st.control, span_more depth (suc most_contexts - depth), ap span whole)
+  pub standing_light : {budget : ℕ} {start : Expression} {c : List Cell} {f : List Frame} {k : Focus} {made : Counts} →
+      Standing m word budget start c f k made → length f ≤ suc most_contexts → point_weight f k < span (suc most_contexts)
+  standing_light {f = f} st low =
+      let whole : length f + (suc most_contexts - length f) ≡ suc most_contexts = omega arith in
+      omega (arith, stack_light st.stack, (control_light st.control).0, span_more (length f) (suc most_contexts - length f), ap span whole)
 
 -- A move that makes no step takes weight.
 pub lighter_remains : (budget : ℕ) (made : Counts) (a b : ℕ) → a < b → remaining budget made a < remaining budget made b

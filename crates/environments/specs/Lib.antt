@@ -1,3 +1,3 @@
-pub mod Kinds
 pub mod Standing
 pub mod Weights
+pub mod Frames

@@ -1,8 +1,8 @@
 -- Why the moves between two steps end: what is looked at and the frames that wait have a weight, and each such move takes from it.
-use Rattle.std.specs.Prelude.{ℕ, zero, suc, ◌+◌, ◌-◌, ◌*◌, Bool, cond, eqb, ltb, get_or}
+use Rattle.std.specs.Prelude.{ℕ, zero, suc, ◌+◌, ◌-◌, ◌*◌, List, [], ◌∷◌}
 use Rattle.dryrun.specs.Run.{Counts, steps, most_contexts}
-use Rattle.environments.specs.Kinds.{number_kind}
-use Rattle.environments.specs.Standing.{Frames}
+use Rattle.environments.specs.declared.Focus.{Focus}
+use Rattle.environments.specs.declared.Frame.{Frame}
 
 -- A row that is looked at weighs more than two rows below it and two moves.
 unfoldable pub weight : ℕ → ℕ
@@ -10,19 +10,27 @@ weight zero = 3
 weight (suc i) = 3 * weight i
 
 -- A value weighs 1.
-abbrev pub control_weight : Bool → ℕ → ℕ
-control_weight value? n = cond value? 1 (weight n)
+abbrev pub control_weight : Focus → ℕ
+control_weight (Focus.Row i place) = weight i
+control_weight (Focus.Datum v) = 1
 
 -- A frame that waits weighs more than what it waits for; one that holds a value weighs nothing.
-abbrev pub frame_weight : ℕ → ℕ → ℕ
-frame_weight kind value = cond (ltb kind number_kind) (weight value + 1) (cond (eqb kind number_kind) 1 0)
+abbrev pub waiting_weight : Focus → ℕ
+waiting_weight (Focus.Row i place) = weight i + 1
+waiting_weight (Focus.Datum v) = 1
 
-unfoldable pub frames_weight : Frames → ℕ → ℕ
-frames_weight f zero = 0
-frames_weight f (suc d) = frames_weight f d + frame_weight (get_or f.kind d 0) (get_or f.value d 0)
+abbrev pub frame_weight : Frame → ℕ
+frame_weight (Frame.Argument k) = waiting_weight k
+frame_weight (Frame.Right o k) = waiting_weight k
+frame_weight (Frame.Called v) = 0
+frame_weight (Frame.Left o v) = 0
 
-abbrev pub point_weight : Frames → Bool → ℕ → ℕ → ℕ
-point_weight f value? n depth = control_weight value? n + frames_weight f depth
+unfoldable pub frames_weight : List Frame → ℕ
+frames_weight [] = 0
+frames_weight (x ∷ f) = frames_weight f + frame_weight x
+
+abbrev pub point_weight : List Frame → Focus → ℕ
+point_weight f k = control_weight k + frames_weight f
 
 -- No row's number is 256, so that so many frames and what is looked at weigh less than this.
 unfoldable pub span : ℕ → ℕ

@@ -1,2 +1,98 @@
-// What the arrays of a dry run stand for, and what each of its moves does to that. This crate holds no code.
+// What the arrays of a dry run stand for, and what each of its moves does to that.
 #![tactic(auto)]
+
+ghost use Rattle.std.specs.Prelude.{◌≡◌, ◌≤◌, ◌<◌, ◌∷◌, length};
+ghost use Rattle.environments.specs.Frames.{stacked};
+
+use std::marker::Model;
+
+// A cell for each application that the largest budget allows.
+pub const CELLS: usize = 10000;
+
+// A frame for each of the 4,096 contexts that may stand around a step, and one for what the step itself is made of.
+pub const FRAMES: usize = 4097;
+
+// A value: a number with its tag; or a function, its LAM's row and the place where its parameters are bound.
+#[derive(Clone, Copy)]
+pub enum Datum {
+    Number(u32, u8),
+    Function(u16, u16),
+}
+
+// What is looked at: a row to be run at a place of the cells, or a value.
+#[derive(Clone, Copy)]
+pub enum Focus {
+    Row(u16, u16),
+    Datum(Datum),
+}
+
+// A reduction context: what waits as an argument, or as an operation's right operand; or what is held as a function, or as an operation's left operand.
+#[derive(Clone, Copy)]
+pub enum Frame {
+    Argument(Focus),
+    Right(u8, Focus),
+    Called(Datum),
+    Left(u8, Datum),
+}
+
+// A cell binds a parameter to a value; the others are bound where `next` says. Place 0 binds nothing, place j + 1 is cell j.
+#[derive(Clone, Copy)]
+pub struct Cell {
+    pub param: u16,
+    pub next: u16,
+    pub datum: Datum,
+}
+
+// The frames that stand, seen as their list, the innermost first.
+#[derive(Drop)]
+pub struct Frames {
+    frames: [Frame; FRAMES],
+    depth: u16,
+}
+
+impl Model for Frames {
+    ghost use Rattle.std.specs.Prelude.{List, ◌≤◌};
+    ghost use Rattle.environments.specs.declared.Frame.{Frame};
+    ghost use Rattle.environments.specs.Frames.{stacked};
+
+    ghost Value = { List Frame };
+
+    ghost view = { λ s. stacked s.frames s.depth };
+
+    ghost invariant = { λ s. s.depth ≤ 4097 };
+}
+
+impl Frames {
+    // The first so many of an array, the last of them the innermost.
+    pub fn first(frames: [Frame; FRAMES], depth: usize) -> Frames
+        requires { depth ≤ 4097 }
+        ensures { result ≡ stacked frames depth }
+    {
+        Frames {
+            frames,
+            depth: depth as u16,
+        }
+    }
+
+    pub fn len(&self) -> usize
+        ensures { (result ≡ length self.now) × (result ≤ 4097) }
+    {
+        self.depth as usize
+    }
+
+    pub fn push(&mut self, frame: Frame)
+        requires { length self.old < 4097 }
+        ensures { self.new ≡ frame ∷ self.old }
+    {
+        self.frames[self.depth as usize] = frame;
+        self.depth += 1;
+    }
+
+    pub fn pop(&mut self) -> Frame
+        requires { 0 < length self.old }
+        ensures { (self.old ≡ result ∷ self.new) × (length self.new ≤ 4096) }
+    {
+        self.depth -= 1;
+        self.frames[self.depth as usize]
+    }
+}

@@ -1,4 +1,3 @@
 pub mod Advancing
-pub mod Looking
 pub mod Ending
 pub mod Running

@@ -2,31 +2,31 @@
 use Prim.Native.Nat.{ℕ, suc, ◌-◌, ◌≤◌, ◌<◌}
 use native.Mathlib.Omega.{arith}
 use native.Mathlib.Decide.{ℕ_discrete}
-use mathlib.Core.Bool.{true}
 use mathlib.Core.List.{List, [], ◌∷◌}
 use mathlib.Core.Path.{◌≡◌, refl, sym, ap, subst, ◌∙◌}
 use lib.Dec.{eqb}
-use lib.ListN.{length, get_or, drop, length-drop}
-use lib.Seq.{drop-cons, get_or-set_other}
+use lib.ListN.{length, get_or, set, drop, length-drop}
+use lib.Seq.{drop-cons, get_or-set_same, get_or-set_other}
 use borrow.Author.Tests.{eqb-true, eq-eqb}
+use Rattle.std.specs.Prelude.{Some}
 use Rattle.model.specs.Machine.{Machine, term_at}
-use Rattle.model.specs.WellFormed.{WellFormed, TermStands}
+use Rattle.model.specs.WellFormed.{WellFormed}
 use Rattle.model.specs.Inference.{Slot, param, Shape}
 use Rattle.model.specs.declared.Term.TheVariants.{Lam}
-use Rattle.scheme.specs.Schemes.{words}
 use Rattle.checks.proofs.Tests.{any_at, some_at}
 use Rattle.dryrun.specs.Expression.{leading_of}
-use Rattle.dryrun.specs.Run.{last_row, leading, NoArrow}
-use Rattle.environments.specs.Kinds.{function_tag, number_kind}
-use Rattle.environments.specs.Standing.{Frames, row_of}
-use Rattle.moves.specs.Moves.{Framed}
-use Rattle.moves.proofs.Arrays.{with_frame, frame_topped}
+use Rattle.dryrun.specs.Run.{most_contexts, last_row, leading, NoArrow}
+use Rattle.environments.specs.Standing.{row_of}
+use Rattle.environments.specs.Frames.{no_frame, stacked}
+use Rattle.environments.specs.declared.Datum.{Datum}
+use Rattle.environments.specs.declared.Focus.{Focus}
+use Rattle.environments.specs.declared.Frame.{Frame}
 use Rattle.leading.specs.Leading.{Unfit, wrong_count, arrow, Leads}
 use Rattle.leading.proofs.Lams.{leading_at, row_leads, leading_most}
 use Rattle.leading.proofs.Numbers.{Numbered, Numbers, arguments, arguments_plugged, arguments_stack}
 
 -- The first j numbers are put, and the next parameter is that of the LAM at the row.
-pub record Going (m : Machine) (word : Slot → ℕ) (shape : Slot → Shape) (numbers : List ℕ) (f : Frames) (row j : ℕ) : Type 0 where
+pub record Going (m : Machine) (word : Slot → ℕ) (shape : Slot → Shape) (numbers : List ℕ) (f : List Frame) (row j : ℕ) : Type 0 where
   pub rest : drop j (leading m) ≡ leading_at m row
   pub passed : j ≤ length (leading m)
   pub no_arrow : (k : ℕ) → k < j → ¬ (shape (param (get_or (leading m) k 0)) ≡ Shape.arrow)
@@ -38,10 +38,10 @@ past_any m w shape numbers h = wrong_count (λ e. let z : ⊥ = omega (arith, le
 
 module _ (m : Machine) (w : WellFormed m) (word : Slot → ℕ) (shape : Slot → Shape) (numbers : List ℕ) where
   -- Before any number is put.
-  pub going_none : (f : Frames) → Going m word shape numbers f (last_row m) 0
+  pub going_none : (f : List Frame) → Going m word shape numbers f (last_row m) 0
   going_none f = record { rest = refl; passed = omega arith; no_arrow = λ k h. let z : ⊥ = omega arith in absurd z; filled = λ k h. let z : ⊥ = omega arith in absurd z }
 
-  module _ (f : Frames) (row j : ℕ) (going : Going m word shape numbers f row j) (in_list : row < length m.terms) where
+  module _ (f : List Frame) (row j : ℕ) (going : Going m word shape numbers f row j) (in_list : row < length m.terms) where
     -- At a row that is no LAM the leading LAMs are at their end.
     over : leading_of (leading_at m) (term_at m row) ≡ [] → length (leading m) ≡ j
     over none =
@@ -79,14 +79,10 @@ module _ (m : Machine) (w : WellFormed m) (word : Slot → ℕ) (shape : Slot �
       pub is_arrow : shape (param p) ≡ Shape.arrow → Unfit m shape numbers
       is_arrow e = arrow p (any_at (λ k. eqb p k) (leading m) j 0 more (eq-eqb p (get_or (leading m) j 0) (sym own))) e
 
-      -- A LAM's parameter is declared.
-      pub declared : p < length m.params
-      declared = (subst (TermStands (words m.schemes) (length m.params) row) lam (w.terms_stand row in_list)).0
-
       -- One number more.
-      pub going_more : Framed f → j < length numbers → length numbers ≤ 256 → ¬ (shape (param p) ≡ Shape.arrow) → ¬ (word (param p) ≡ function_tag) →
-          Going m word shape numbers (with_frame f (length numbers - 1 - j) number_kind (word (param p)) (get_or numbers j 0) 0) b (suc j)
-      going_more sized h few straight plain =
+      pub going_more : length f ≡ suc most_contexts → j < length numbers → length numbers ≤ 256 → ¬ (shape (param p) ≡ Shape.arrow) →
+          Going m word shape numbers (set f (length numbers - 1 - j) (Frame.Argument (Focus.Datum (Datum.Number (get_or numbers j 0) (word (param p)))))) b (suc j)
+      going_more sized h few straight =
           record {
             rest = after;
             passed = more;
@@ -94,28 +90,20 @@ module _ (m : Machine) (w : WellFormed m) (word : Slot → ℕ) (shape : Slot �
             filled = λ k below. filled k (ℕ_discrete k j) below;
           }
         where
-          f' : Frames
-          f' = with_frame f (length numbers - 1 - j) number_kind (word (param p)) (get_or numbers j 0) 0
+          new : Frame
+          new = Frame.Argument (Focus.Datum (Datum.Number (get_or numbers j 0) (word (param p))))
 
           no_arrow : (k : ℕ) → Dec (k ≡ j) → k < suc j → ¬ (shape (param (get_or (leading m) k 0)) ≡ Shape.arrow)
           no_arrow k (yes e) below = rw (e, own) straight
           no_arrow k (no other) below = going.no_arrow k (omega arith)
 
-          filled : (k : ℕ) → Dec (k ≡ j) → k < suc j → Numbered f' (length numbers - 1 - k) (word (param (get_or (leading m) k 0))) (get_or numbers k 0)
-          filled k (yes e) below =
-              let top = frame_topped f (length numbers - 1 - j) number_kind (word (param p)) (get_or numbers j 0) 0 sized (omega arith) in
-              rw (e, own) (record { kind = top.kind; tagged = top.tag; plain = plain; value = top.value })
+          filled : (k : ℕ) → Dec (k ≡ j) → k < suc j → Numbered (set f (length numbers - 1 - j) new) (length numbers - 1 - k) (word (param (get_or (leading m) k 0))) (get_or numbers k 0)
+          filled k (yes e) below = rw (e, own) (get_or-set_same f (length numbers - 1 - j) new no_frame (omega arith))
           filled k (no other) below =
-              let before = going.filled k (omega arith) in
-              record {
-                kind = get_or-set_other f.kind (length numbers - 1 - j) (length numbers - 1 - k) number_kind 0 (λ e. let z : ⊥ = omega arith in z) ∙ before.kind;
-                tagged = get_or-set_other f.tag (length numbers - 1 - j) (length numbers - 1 - k) (word (param p)) 0 (λ e. let z : ⊥ = omega arith in z) ∙ before.tagged;
-                plain = before.plain;
-                value = get_or-set_other f.value (length numbers - 1 - j) (length numbers - 1 - k) (get_or numbers j 0) 0 (λ e. let z : ⊥ = omega arith in z) ∙ before.value;
-              }
+              get_or-set_other f (length numbers - 1 - j) (length numbers - 1 - k) new no_frame (λ e. let z : ⊥ = omega arith in z) ∙ going.filled k (omega arith)
 
     -- All numbers are put, and there is no further LAM.
-    pub leads : length numbers ≡ j → leading_of (leading_at m) (term_at m row) ≡ [] → Leads m word shape numbers f true
+    pub leads : length numbers ≡ j → leading_of (leading_at m) (term_at m row) ≡ [] → Leads m word shape numbers (Some (stacked f (length numbers)))
     leads all none =
         let same : length numbers ≡ length (leading m) = all ∙ sym (over none) in (
           same,

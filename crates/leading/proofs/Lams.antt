@@ -1,9 +1,8 @@
 -- The leading LAMs are read off row by row, and no depth past the rows' count adds one.
 use Prim.Native.Nat.{ℕ, zero, suc, ◌-◌, ◌≤◌, ◌<◌}
 use native.Mathlib.Omega.{arith}
-use mathlib.Core.Bool.{true, false, false≢true}
 use mathlib.Core.List.{List, [], ◌∷◌}
-use mathlib.Core.Path.{◌≡◌, refl, sym, ap, ◌∙◌}
+use mathlib.Core.Path.{◌≡◌, refl, ap}
 use lib.ListN.{length}
 use Rattle.scheme.specs.Schemes.{words}
 use Rattle.model.specs.Machine.{Machine, term_at}
@@ -12,8 +11,6 @@ use Rattle.model.specs.declared.Term.{Term}
 use Rattle.model.specs.declared.Term.TheVariants.{Lam, App, Op, Var, Num, Enc}
 use Rattle.dryrun.specs.Expression.{leading_of, leading_from}
 use Rattle.dryrun.specs.Run.{leading}
-use Rattle.leading.specs.Leading.{head_of}
-use Rattle.leading.specs.declared.Head.{Head}
 
 -- The leading LAMs from a row on.
 abbrev pub leading_at : Machine → ℕ → List ℕ
@@ -59,26 +56,11 @@ from_most m (suc d) i = by (term_at m i) (λ b. from_most m d b)
 pub leading_most : (m : Machine) → WellFormed m → length (leading m) ≤ 256
 leading_most m w = omega (arith, w.terms_fit, from_most m (length m.terms) (length m.terms - 1))
 
--- A head that says LAM is that of a LAM, with its parameter and its body.
-pub is_lam : (t : Term) (h : Head) → h ≡ head_of t → h.lam ≡ true → t ≡ Lam h.param h.body
-is_lam t h e is = rw e (by t (ap (λ (x : Head). x.lam) (sym e) ∙ is))
-  where
-    by : (t : Term) → (head_of t).lam ≡ true → t ≡ Lam (head_of t).param (head_of t).body
-    by (Lam p b) is = refl
-    by (App f a) is = absurd (false≢true is)
-    by (Op o l r) is = absurd (false≢true is)
-    by (Var p) is = absurd (false≢true is)
-    by (Num n) is = absurd (false≢true is)
-    by (Enc s n) is = absurd (false≢true is)
-
--- A head that says no LAM is that of a row with no leading LAM.
-pub leads_none : (t : Term) (h : Head) → h ≡ head_of t → h.lam ≡ false → (below : ℕ → List ℕ) → leading_of below t ≡ []
-leads_none t h e none below = by t (ap (λ (x : Head). x.lam) (sym e) ∙ none)
-  where
-    by : (t : Term) → (head_of t).lam ≡ false → leading_of below t ≡ []
-    by (Lam p b) none = absurd (false≢true (sym none))
-    by (App f a) none = refl
-    by (Op o l r) none = refl
-    by (Var p) none = refl
-    by (Num n) none = refl
-    by (Enc s n) none = refl
+-- A row that is no LAM has no leading LAM.
+pub leads_none : (t : Term) → ((p b : ℕ) → ¬ (t ≡ Lam p b)) → (below : ℕ → List ℕ) → leading_of below t ≡ []
+leads_none (Lam p b) other below = absurd (other p b refl)
+leads_none (App f a) other below = refl
+leads_none (Op o l r) other below = refl
+leads_none (Var p) other below = refl
+leads_none (Num n) other below = refl
+leads_none (Enc s n) other below = refl

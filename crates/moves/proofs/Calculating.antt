@@ -1,8 +1,9 @@
 -- The five operations.
 use Prim.Native.Nat.{ℕ, ◌+◌, ◌*◌, ◌≤◌, ◌<◌}
-use native.Mathlib.Omega.{arith}
+use mathlib.Core.Bool.{Bool, true, false}
 use mathlib.Core.Path.{◌≡◌, refl, sym, ap, ◌∙◌}
 use lib.Dec.{eqb, ltb}
+use mir.Val.{bool_byte}
 use borrow.Author.Tests.{lt-ltb, le-ltb}
 use Rattle.dryrun.specs.Transition.{calculated, holds, result_tag}
 
@@ -30,8 +31,10 @@ module _ {o : ℕ} (x y : ℕ) where
   unfolding calculated
   is_gt is h = h ∙ by_code 4 is
 
-pub four : (o : ℕ) → o < 5 → (o ≡ 0 → ⊥) → (o ≡ 1 → ⊥) → (o ≡ 2 → ⊥) → (o ≡ 3 → ⊥) → o ≡ 4
-four o h a b c d = omega arith
+-- A comparison as a number.
+pub truth : (b : Bool) → bool_byte b ≡ holds b
+truth true = refl
+truth false = refl
 
 -- A sum and a product keep the tag.
 pub keeps_tag : (o tag : ℕ) → o < 2 → tag ≡ result_tag o tag

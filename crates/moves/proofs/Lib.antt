@@ -1,7 +1,7 @@
 pub mod Arrays
 pub mod Seeking
-pub mod Rows
 pub mod Tops
+pub mod Rows
 pub mod Rounding
 pub mod Applying
 pub mod Calculating

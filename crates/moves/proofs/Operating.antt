@@ -1,47 +1,46 @@
 -- One law for each way through an operation.
-use Prim.Native.Nat.{ℕ, suc, ◌+◌, ◌-◌, ◌≤◌, ◌<◌}
+use Prim.Native.Nat.{ℕ, ◌+◌, ◌≤◌, ◌<◌}
 use native.Mathlib.Omega.{arith}
-use mathlib.Core.Bool.{true}
+use mathlib.Core.List.{◌∷◌}
 use mathlib.Core.Path.{◌≡◌}
-use lib.ListN.{get_or}
+use Rattle.std.specs.Prelude.{Ok, Err}
 use Rattle.dryrun.specs.Transition.{calculated, result_tag}
-use Rattle.dryrun.specs.Run.{most_contexts, largest_number}
-use Rattle.environments.specs.Kinds.{left_kind}
-use Rattle.environments.specs.Standing.{Frames, Standing}
+use Rattle.dryrun.specs.Run.{largest_number}
 use Rattle.environments.specs.Weights.{point_weight}
-use Rattle.environments.proofs.Turns.{spent, operates_on, overflows_at}
+use Rattle.environments.specs.declared.Datum.{Datum}
+use Rattle.environments.specs.declared.Focus.{Focus}
+use Rattle.environments.specs.declared.Frame.{Frame}
+use Rattle.environments.proofs.Turns.{spent, operands, operates_on, overflows_at}
 use Rattle.environments.proofs.Weights.{standing_light, step_remains}
-use Rattle.moves.specs.Moves.{Operates, Comes, leads_on, stops, counts_of}
+use Rattle.moves.specs.Moves.{Operates, leads_on, stops, counts_of}
 use Rattle.moves.specs.declared.Point.{Point}
-use Rattle.moves.specs.declared.Turn.TheVariants.{On, Stop}
-use Rattle.moves.proofs.Tops.{top_stands}
+use Rattle.moves.specs.declared.Refusal.{Refusal}
+use Rattle.moves.proofs.Tops.{looks}
 
 -- The point at a result.
 abbrev pub resulted : Point → ℕ → ℕ → Point
-resulted p tag n = record { value = true; tag = tag; number = n; place = 0; depth = p.depth - 1; applications = p.applications; operations = p.operations + 1 }
+resulted p n tag = record { focus = Focus.Datum (Datum.Number n tag); applications = p.applications; operations = p.operations + 1 }
 
-module _ {budget : ℕ} {f : Frames} {p : Point} (some : 0 < p.depth) where
-  pub spent_before : p.applications + p.operations ≡ budget → Operates budget f p (Stop 30)
-  spent_before all m word start c job ev st = stops (spent m job.is_well_formed word budget start job.safe (top_stands m word budget start c f p some ev st) all)
+module _ {o budget : ℕ} {u v : Datum} {p : Point} where
+  pub spent_before : p.applications + p.operations ≡ budget → Operates o u v budget p (Err Refusal.Limit)
+  spent_before all m word start c f job low at st = stops (spent m job.is_well_formed word budget start job.safe (looks st at) all)
 
-  module _ {o result : ℕ} (low : p.depth ≤ suc most_contexts) (unspent : ¬ (p.applications + p.operations ≡ budget)) (above : left_kind 0 ≤ get_or f.kind (p.depth - 1) 0)
-      (code : o ≡ get_or f.kind (p.depth - 1) 0 - left_kind 0) (is : result ≡ calculated o (get_or f.value (p.depth - 1) 0) p.number) where
-    pub overflows_past : largest_number < result → Operates budget f p (Stop 29)
-    overflows_past past m word start c job ev st =
-        stops (overflows_at m job.is_well_formed word budget start job.safe (top_stands m word budget start c f p some ev st) o (omega arith) unspent (omega arith) (omega arith))
+  -- Both operands are numbers.
+  pub no_left : ((x t : ℕ) → ¬ (u ≡ Datum.Number x t)) → Operates o u v budget p (Err Refusal.Limit)
+  no_left other m word start c f job low at st = let both = operands m job.is_well_formed word budget start job.safe (looks st at) in absurd (other both.x both.tag both.left_is)
 
-    pub operates_to : {t : ℕ} {q : Point} → p.applications + p.operations ≤ budget → result ≤ largest_number → t ≡ result_tag o p.tag → q ≡ resulted p t result → Operates budget f p (On q)
-    operates_to {t} {q} within fits et eq m word start c job ev st =
+  pub no_right : ((y t : ℕ) → ¬ (v ≡ Datum.Number y t)) → Operates o u v budget p (Err Refusal.Limit)
+  no_right other m word start c f job low at st = let both = operands m job.is_well_formed word budget start job.safe (looks st at) in absurd (other both.y both.tag both.right_is)
+
+  module _ {x y t s result : ℕ} (unspent : ¬ (p.applications + p.operations ≡ budget)) (left_is : u ≡ Datum.Number x t) (right_is : v ≡ Datum.Number y s) (is : result ≡ calculated o x y) where
+    pub overflows_past : largest_number < result → Operates o u v budget p (Err Refusal.TooLarge)
+    overflows_past past m word start c f job low at st =
+        stops (overflows_at m job.is_well_formed word budget start job.safe (looks st at) {x = x} {y = y} {t = t} {s = s} left_is right_is unspent low (omega arith))
+
+    pub operates_to : {tag : ℕ} {q : Point} → p.applications + p.operations ≤ budget → result ≤ largest_number → tag ≡ result_tag o s → q ≡ resulted p result tag → Operates o u v budget p (Ok q)
+    operates_to {tag} {q} within fits et eq m word start c f job low at st =
+        let st' = operates_on m job.is_well_formed word budget start job.safe (looks st at) {x = x} {y = y} {t = t} {s = s} left_is right_is unspent low (omega arith) in
         rw (eq, et, is)
-        (lands (operates_on m job.is_well_formed word budget start job.safe (top_stands m word budget start c f p some ev st) o (omega arith) unspent (omega arith) (omega arith)))
-      where
-        n : ℕ
-        n = calculated o (get_or f.value (p.depth - 1) 0) p.number
-
-        lands : Standing m word budget start c f true (result_tag o p.tag) n 0 (p.depth - 1) (counts_of (resulted p (result_tag o p.tag) n)) →
-            Comes m word budget start f p c f (On (resulted p (result_tag o p.tag) n))
-        lands st' =
-            leads_on st'
-            (step_remains budget (counts_of p) (counts_of (resulted p (result_tag o p.tag) n)) (point_weight f true n (p.depth - 1)) (point_weight f p.value p.number p.depth) (omega arith) (omega arith)
-            (standing_light m job.is_well_formed word st' (omega arith)))
-            (omega arith)
+        (leads_on st'
+        (step_remains budget (counts_of p) (counts_of (resulted p (calculated o x y) (result_tag o s))) (point_weight f (Focus.Datum (Datum.Number (calculated o x y) (result_tag o s))))
+        (point_weight (Frame.Left o u ∷ f) p.focus) (omega arith) (omega arith) (standing_light m job.is_well_formed word st' (omega arith))))

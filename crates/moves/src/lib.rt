@@ -1,212 +1,114 @@
 // One move of a dry run, on arrays: a row that is looked at becomes a value or leads to a row beneath it, a value takes its place in a frame, or a step is made.
 #![tactic(auto)]
 
-ghost use Rattle.std.specs.Prelude.{◌≡◌, true, false, ℕ, suc, ◌+◌, ◌-◌, ◌<◌, ◌≤◌, eqb, set, get_or};
-ghost use Rattle.environments.specs.Kinds.{number_kind};
-ghost use Rattle.moves.specs.Moves.{holding_kind, Framed, Celled, TurnsRow, TurnsRound, cells_of, frames_of};
+ghost use Rattle.std.specs.Prelude.{◌≡◌, ◌<◌, ◌≤◌, ◌∷◌, length};
+ghost use Rattle.environments.specs.declared.Focus.{Focus};
+ghost use Rattle.environments.specs.declared.Frame.{Frame};
+ghost use Rattle.moves.specs.Moves.{refusal_number, Holds, Celled, TurnsRow, TurnsRound};
 
+use environments::{CELLS, Cell, Datum, Focus, Frame, Frames};
 use model::Term;
 
 pub mod cells;
 pub mod operations;
 
-// A cell for each application that the largest budget allows.
-pub const CELLS: usize = 10000;
-
 // The contexts that may stand around a step.
 const CONTEXTS: usize = 4096;
 
-// A frame for each of them, and one for what the step itself is made of.
-pub const FRAMES: usize = 4097;
+// Why a run is refused: the job is none that runs, a result is too large, or the budget is used up or the next step stands too deep.
+#[derive(Clone, Copy)]
+pub enum Refusal {
+    NotRun,
+    TooLarge,
+    Limit,
+}
 
-// The tag of what is a function.
-pub const FUNCTION: u8 = 255;
+impl From<Refusal> for u8 {
+    ghost from_gives = { λ r n. n ≡ refusal_number r };
 
-// The kinds of frames that wait: for an argument's row, by an operation for its right operand, with a number as the argument.
-pub const ARGUMENT: u8 = 0;
+    fn from(refusal: Refusal) -> u8 {
+        match refusal {
+            Refusal::NotRun => 28,
+            Refusal::TooLarge => 29,
+            Refusal::Limit => 30,
+        }
+    }
+}
 
-pub const RIGHT: u8 = 1;
-
-pub const NUMBER: u8 = 6;
-
-// The kinds of frames that hold: a function, by an operation its left operand.
-pub const CALLED: u8 = 7;
-
-pub const LEFT: u8 = 8;
-
-// What is looked at, a row to be run at a place of the cells, or a value; how many frames stand; the steps made.
+// What is looked at, and the steps made.
 #[derive(Clone, Copy)]
 pub struct Point {
-    pub value: bool,
-    pub tag: u8,
-    pub number: u32,
-    pub place: u16,
-    pub depth: u16,
+    pub focus: Focus,
     pub applications: u16,
     pub operations: u16,
 }
 
-#[derive(Clone, Copy)]
-pub enum Turn {
-    On(Point),
-    Stop(u8),
-}
-
-// Puts a frame in its place.
-pub fn frame(
-    kind: &mut [u8; FRAMES],
-    tag: &mut [u8; FRAMES],
-    value: &mut [u32; FRAMES],
-    places: &mut [u16; FRAMES],
-    at: usize,
-    k: u8,
-    t: u8,
-    v: u32,
-    place: u16,
-)
-    requires { at < 4097 }
-    ensures { (kind.new ≡ set kind.old at k) × (tag.new ≡ set tag.old at t) × (value.new ≡ set value.old at v) × (places.new ≡ set places.old at place) }
-{
-    kind[at] = k;
-    tag[at] = t;
-    value[at] = v;
-    places[at] = place;
-}
-
 // The point at a value.
-fn at_value(p: Point, tag: u8, number: u32, place: u16) -> Point
-    ensures { result ≡ record { value = true; tag = tag; number = number; place = place; depth = p.depth; applications = p.applications; operations = p.operations } }
+fn at_value(p: Point, value: Datum) -> Point
+    ensures { result ≡ record { focus = Focus.Datum value; applications = p.applications; operations = p.operations } }
 {
     Point {
-        value: true,
-        tag,
-        number,
-        place,
-        depth: p.depth,
-        applications: p.applications,
-        operations: p.operations,
+        focus: Focus::Datum(value),
+        ..p
     }
 }
 
-// The point at a row beneath a new frame.
-fn beneath(p: Point, row: u16) -> Point
-    requires { p.depth ≤ 4096 }
-    ensures { result ≡ record { value = false; tag = p.tag; number = row; place = p.place; depth = p.depth + 1; applications = p.applications; operations = p.operations } }
+// The point at a row.
+fn at_row(p: Point, row: u16, place: u16) -> Point
+    ensures { result ≡ record { focus = Focus.Row row place; applications = p.applications; operations = p.operations } }
 {
     Point {
-        value: false,
-        tag: p.tag,
-        number: row as u32,
-        place: p.place,
-        depth: p.depth + 1,
-        applications: p.applications,
-        operations: p.operations,
+        focus: Focus::Row(row, place),
+        ..p
     }
 }
 
-// A move at a row: `word` is its reported word.
+// A move at a row that is run at a place: `term` is its term, `word` its reported word.
 pub fn turn_row(
     term: Term,
     word: u8,
+    row: u16,
+    place: u16,
     p: Point,
-    param: &[u16; CELLS],
-    next: &[u16; CELLS],
-    tags: &[u8; CELLS],
-    values: &[u32; CELLS],
-    places: &[u16; CELLS],
-    kind: &mut [u8; FRAMES],
-    tag: &mut [u8; FRAMES],
-    value: &mut [u32; FRAMES],
-    place: &mut [u16; FRAMES],
-) -> Turn
-    requires fact_1 { (p.place ≤ 10000) × (p.depth ≤ 4097) }
-    requires fact_2 { Celled (cells_of param.now next.now tags.now values.now places.now) }
-    requires fact_3 { Framed (frames_of kind.old tag.old value.old place.old) }
-    ensures turned { TurnsRow term word (cells_of param.now next.now tags.now values.now places.now) (frames_of kind.old tag.old value.old place.old) (frames_of kind.new tag.new value.new place.new) p result }
-    ensures framed { Framed (frames_of kind.new tag.new value.new place.new) }
+    cells: &[Cell; CELLS],
+    frames: &mut Frames,
+) -> Result<Point, Refusal>
+    requires { (place ≤ 10000) × Celled cells.now }
+    ensures { TurnsRow term word row place cells.now frames.old frames.new p result }
 {
     match term {
-        Term::Lam(_, _) => Turn::On(at_value(p, FUNCTION, p.number, p.place)),
-        Term::Num(n) => Turn::On(at_value(p, word, n, 0)),
-        Term::Enc(_, n) => Turn::On(at_value(p, word, n, 0)),
+        Term::Lam(_, _) => Ok(at_value(p, Datum::Function(row, place))),
+        Term::Num(n) => Ok(at_value(p, Datum::Number(n, word))),
+        Term::Enc(_, n) => Ok(at_value(p, Datum::Number(n, word))),
         Term::Var(x) => {
-            let j = cells::seek(param, next, p.place, x);
-            Turn::On(at_value(p, tags[j], values[j], places[j]))
+            let cell = cells[cells::seek(cells, place, x)];
+            Ok(at_value(p, cell.datum))
         }
         Term::App(f, a) => {
-            let at = p.depth as usize;
-            if at > CONTEXTS {
-                return Turn::Stop(30);
+            if frames.len() > CONTEXTS {
+                return Err(Refusal::Limit);
             }
-            frame(kind, tag, value, place, at, ARGUMENT, 0, a as u32, p.place);
-            Turn::On(beneath(p, f))
+            frames.push(Frame::Argument(Focus::Row(a, place)));
+            Ok(at_row(p, f, place))
         }
         Term::Op(o, l, r) => {
-            let at = p.depth as usize;
-            if at > CONTEXTS {
-                return Turn::Stop(30);
+            if frames.len() > CONTEXTS {
+                return Err(Refusal::Limit);
             }
-            if o > 4 {
-                return Turn::Stop(30);
-            }
-            frame(kind, tag, value, place, at, RIGHT + o, 0, r as u32, p.place);
-            Turn::On(beneath(p, l))
+            frames.push(Frame::Right(o, Focus::Row(r, place)));
+            Ok(at_row(p, l, place))
         }
     }
 }
 
-// A move at a value under a frame that waits: the frame holds it from now on, and what the frame had waiting is looked at.
-pub fn turn_round(
-    p: Point,
-    kind: &mut [u8; FRAMES],
-    tag: &mut [u8; FRAMES],
-    value: &mut [u32; FRAMES],
-    place: &mut [u16; FRAMES],
-) -> Point
-    requires fact_1 { (0 < p.depth) × (p.depth ≤ 4097) × (get_or kind.old (p.depth - 1) 0 ≤ number_kind) }
-    requires fact_2 { Framed (frames_of kind.old tag.old value.old place.old) }
-    ensures turned { TurnsRound (frames_of kind.old tag.old value.old place.old) (frames_of kind.new tag.new value.new place.new) p result }
-    ensures framed { Framed (frames_of kind.new tag.new value.new place.new) }
+// A move at a value under a frame that waits, which was taken off: a frame that holds the value is put in its place, and what waited is looked at.
+pub fn turn_round(holding: Frame, waiting: Focus, p: Point, frames: &mut Frames) -> Point
+    requires { length frames.old < 4097 }
+    ensures { (top : Frame) → Holds top p.focus holding waiting → TurnsRound (top ∷ frames.old) frames.new p result }
 {
-    let at = p.depth as usize - 1;
-    let waiting = kind[at];
-    let q = resume(p, waiting, tag[at], value[at], place[at]);
-    frame(
-        kind,
-        tag,
-        value,
-        place,
-        at,
-        holding(waiting),
-        p.tag,
-        p.number,
-        p.place,
-    );
-    q
-}
-
-// The point at what a frame had waiting, a number or a row.
-fn resume(p: Point, waiting: u8, tag: u8, number: u32, place: u16) -> Point
-    ensures { result ≡ record { value = eqb waiting number_kind; tag = tag; number = number; place = place; depth = p.depth; applications = p.applications; operations = p.operations } }
-{
+    frames.push(holding);
     Point {
-        value: waiting == NUMBER,
-        tag,
-        number,
-        place,
-        depth: p.depth,
-        applications: p.applications,
-        operations: p.operations,
+        focus: waiting,
+        ..p
     }
-}
-
-// The kind of the frame that holds, for one that waits.
-fn holding(waiting: u8) -> u8
-    requires { waiting ≤ number_kind }
-    ensures { result ≡ holding_kind waiting }
-{
-    if waiting == NUMBER {
-        return CALLED;
-    }
-    waiting + CALLED
 }

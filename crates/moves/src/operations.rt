@@ -1,53 +1,53 @@
 // The five operations on numbers, and the step that makes one.
-ghost use Rattle.std.specs.Prelude.{◌≡◌, true, ℕ, ◌+◌, ◌-◌, ◌<◌, ◌≤◌, get_or};
-ghost use Rattle.dryrun.specs.Transition.{calculated, holds, result_tag};
-ghost use Rattle.environments.specs.Kinds.{left_kind};
-ghost use Rattle.moves.specs.Moves.{Framed, Operates, frames_of};
+ghost use Rattle.std.specs.Prelude.{◌≡◌, ◌+◌, ◌<◌, ◌≤◌};
+ghost use Rattle.dryrun.specs.Transition.{calculated, result_tag};
+ghost use Rattle.environments.specs.declared.Datum.{Datum};
+ghost use Rattle.environments.specs.declared.Focus.{Focus};
+ghost use Rattle.moves.specs.Moves.{Operates};
 
-use crate::{FRAMES, LEFT, Point, Turn};
+use crate::{Point, Refusal};
+use environments::{Datum, Focus};
 
 // The largest number that a run may come to.
 const LARGEST: u64 = 4294967295;
 
-// An operation: the top frame holds its left operand, the value looked at is its right one.
+// An operation: the frame that was taken off holds its left operand, the value looked at is its right one.
 pub fn operate(
+    operation: u8,
+    left: Datum,
+    right: Datum,
     budget: u16,
     p: Point,
-    kind: &[u8; FRAMES],
-    tag: &[u8; FRAMES],
-    value: &[u32; FRAMES],
-    place: &[u16; FRAMES],
-) -> Turn
-    requires fact_1 { (0 < p.depth) × (p.depth ≤ 4097) × (budget ≤ 10000) × (p.applications + p.operations ≤ budget) }
-    requires fact_2 { (left_kind 0 ≤ get_or kind.now (p.depth - 1) 0) × (get_or kind.now (p.depth - 1) 0 < left_kind 5) }
-    requires fact_3 { Framed (frames_of kind.now tag.now value.now place.now) }
-    ensures { Operates budget (frames_of kind.now tag.now value.now place.now) p result }
+) -> Result<Point, Refusal>
+    requires fact_1 { (budget ≤ 10000) × (p.applications + p.operations ≤ budget) }
+    requires fact_2 { operation < 5 }
+    ensures { Operates operation left right budget p result }
 {
     if p.applications + p.operations == budget {
-        return Turn::Stop(30);
+        return Err(Refusal::Limit);
     }
-    let at = p.depth as usize - 1;
-    let o = kind[at] - LEFT;
-    let result = calculate(o, value[at], p.number);
-    if result > LARGEST {
-        return Turn::Stop(29);
+    let Datum::Number(x, _) = left else {
+        return Err(Refusal::Limit);
+    };
+    let Datum::Number(y, tag) = right else {
+        return Err(Refusal::Limit);
+    };
+    let calculated = calculate(operation, x, y);
+    if calculated > LARGEST {
+        return Err(Refusal::TooLarge);
     }
-    Turn::On(at_result(p, result_tag(o, p.tag), result as u32))
+    Ok(at_result(p, calculated as u32, result_tag(operation, tag)))
 }
 
 // The point at a result, with one operation more.
-fn at_result(p: Point, tag: u8, number: u32) -> Point
-    requires { (0 < p.depth) × (p.operations < 10000) }
-    ensures { result ≡ record { value = true; tag = tag; number = number; place = 0; depth = p.depth - 1; applications = p.applications; operations = p.operations + 1 } }
+fn at_result(p: Point, number: u32, tag: u8) -> Point
+    requires { p.operations < 10000 }
+    ensures { result ≡ record { focus = Focus.Datum (Datum.Number number tag); applications = p.applications; operations = p.operations + 1 } }
 {
     Point {
-        value: true,
-        tag,
-        number,
-        place: 0,
-        depth: p.depth - 1,
-        applications: p.applications,
+        focus: Focus::Datum(Datum::Number(number, tag)),
         operations: p.operations + 1,
+        ..p
     }
 }
 
@@ -61,16 +61,10 @@ fn calculate(o: u8, x: u32, y: u32) -> u64
     match o {
         0 => a + b,
         1 => a * b,
-        2 => truth(x == y),
-        3 => truth(x < y),
-        _ => truth(y < x),
+        2 => (x == y) as u64,
+        3 => (x < y) as u64,
+        _ => (y < x) as u64,
     }
-}
-
-fn truth(b: bool) -> u64
-    ensures { result ≡ holds b }
-{
-    if b { 1 } else { 0 }
 }
 
 // A sum and a product keep the operands' tag, and a comparison has none.

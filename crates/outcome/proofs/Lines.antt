@@ -19,9 +19,12 @@ use Rattle.report.proofs.Tables.{short_word}
 use Rattle.report.proofs.Writing.{wrote_both}
 use Rattle.report.proofs.Fronts.{front_written}
 use Rattle.conversation.specs.Script.{ran_line}
+use Rattle.std.specs.Prelude.{Result, Ok, Err}
+use Rattle.moves.specs.Moves.{refusal_number}
+use Rattle.moves.specs.declared.Refusal.{Refusal}
 use Rattle.evaluator.specs.Evaluation.{outcome}
 use Rattle.evaluator.specs.declared.Answer.{Answer}
-use Rattle.evaluator.specs.declared.Answer.TheVariants.{Number, Function, Nothing}
+use Rattle.evaluator.specs.declared.Answer.TheVariants.{Number, Function}
 use Rattle.evaluator.specs.declared.Ran.{Ran}
 use Rattle.outcome.specs.Result.{result_text}
 
@@ -55,31 +58,30 @@ module _ (l l₁ : List ℕ) (i₁ : ℕ) (long : 6280 ≤ length l) (word : Lis
       tag_near l₃ i₃ tagged = omega (arith, number_near, tagged.end, length-append (qualifier_word names tag) (44 ∷ []), short_word names tag named)
 
 -- The three results.
-module _ (names : List (List ℕ)) (refusal : ℕ) (answer : Answer) {l l₁ : List ℕ} {i₁ : ℕ} where
-  pub number_result : {l₂ l₃ : List ℕ} {i₂ i₃ : ℕ} (n tag : ℕ) → answer ≡ Number n tag → Wrote l 0 (bytes "NUMBER,") l₁ i₁ → Wrote l₁ i₁ (decimal n ++ (44 ∷ [])) l₂ i₂ →
-      Wrote l₂ i₂ (qualifier_word names tag ++ (44 ∷ [])) l₃ i₃ → Wrote l 0 (result_text names refusal answer) l₃ i₃
+module _ (names : List (List ℕ)) (answer : Result Answer Refusal) {l l₁ : List ℕ} {i₁ : ℕ} where
+  pub number_result : {l₂ l₃ : List ℕ} {i₂ i₃ : ℕ} {a : Answer} (n tag : ℕ) → answer ≡ Ok a → a ≡ Number n tag → Wrote l 0 (bytes "NUMBER,") l₁ i₁ → Wrote l₁ i₁ (decimal n ++ (44 ∷ [])) l₂ i₂ →
+      Wrote l₂ i₂ (qualifier_word names tag ++ (44 ∷ [])) l₃ i₃ → Wrote l 0 (result_text names answer) l₃ i₃
   unfolding result_text
-  number_result n tag e opened counted tagged = rw e (wrote_both (wrote_both opened counted) tagged)
+  number_result n tag e is opened counted tagged = rw (e, is) (wrote_both (wrote_both opened counted) tagged)
 
-  pub function_result : answer ≡ Function → Wrote l 0 (bytes "FUNCTION,") l₁ i₁ → Wrote l 0 (result_text names refusal answer) l₁ i₁
+  pub function_result : {a : Answer} → answer ≡ Ok a → a ≡ Function → Wrote l 0 (bytes "FUNCTION,") l₁ i₁ → Wrote l 0 (result_text names answer) l₁ i₁
   unfolding result_text
-  function_result e opened = rw e opened
+  function_result e is opened = rw (e, is) opened
 
-  pub refusal_result : {l₂ : List ℕ} {i₂ : ℕ} → answer ≡ Nothing → Wrote l 0 (bytes "NO,") l₁ i₁ → Wrote l₁ i₁ (decimal refusal ++ (44 ∷ [])) l₂ i₂ →
-      Wrote l 0 (result_text names refusal answer) l₂ i₂
+  pub refusal_result : {l₂ : List ℕ} {i₂ n : ℕ} (e : Refusal) → answer ≡ Err e → n ≡ refusal_number e → Wrote l 0 (bytes "NO,") l₁ i₁ → Wrote l₁ i₁ (decimal n ++ (44 ∷ [])) l₂ i₂ →
+      Wrote l 0 (result_text names answer) l₂ i₂
   unfolding result_text
-  refusal_result e opened counted = rw e (wrote_both opened counted)
+  refusal_result e is said opened counted = rw (is, ← said) (wrote_both opened counted)
 
 -- The line has the result first and the counts last.
-whole : (m : Machine) (ran : Ran) →
-    ran_line m (outcome ran) ≡ result_text m.schemes.names ran.refusal ran.answer ++ line (decimal ran.applications ∷ decimal ran.operations ∷ [])
+whole : (m : Machine) (ran : Ran) → ran_line m (outcome ran) ≡ result_text m.schemes.names ran.answer ++ line (decimal ran.applications ∷ decimal ran.operations ∷ [])
 unfolding ran_line result_text line
 whole m ran = by ran.answer
   where
-    by : (a : Answer) → ran_line m (outcome (record { refusal = ran.refusal; applications = ran.applications; operations = ran.operations; answer = a })) ≡ result_text m.schemes.names ran.refusal a ++ line (decimal ran.applications ∷ decimal ran.operations ∷ [])
-    by (Number n tag) = simp append_assoc
-    by Function = simp append_assoc
-    by Nothing = simp append_assoc
+    by : (a : Result Answer Refusal) → ran_line m (outcome (record { applications = ran.applications; operations = ran.operations; answer = a })) ≡ result_text m.schemes.names a ++ line (decimal ran.applications ∷ decimal ran.operations ∷ [])
+    by (Ok (Number n tag)) = simp append_assoc
+    by (Ok Function) = simp append_assoc
+    by (Err e) = simp append_assoc
 
 module _ (l l₁ result : List ℕ) (i₁ : ℕ) (long : 6280 ≤ length l) (wrote : Wrote l 0 result l₁ i₁) (near : i₁ ≤ 24) (applications operations : ℕ) (h : applications ≤ 65535) (k : operations ≤ 65535) where
   counts_short : length (line (decimal applications ∷ decimal operations ∷ [])) ≤ 22
@@ -94,7 +96,7 @@ module _ (l l₁ result : List ℕ) (i₁ : ℕ) (long : 6280 ≤ length l) (wro
 
 -- So the line stands at the front of the buffer, for every machine with these names.
 pub ran_front : (names : List (List ℕ)) (ran : Ran) (l l₁ l₂ : List ℕ) (i₁ i₂ : ℕ) → 6280 ≤ length l → ran.applications ≤ 65535 → ran.operations ≤ 65535 →
-    Wrote l 0 (result_text names ran.refusal ran.answer) l₁ i₁ → i₁ ≤ 24 → Wrote l₁ i₁ (line (decimal ran.applications ∷ decimal ran.operations ∷ [])) l₂ i₂ →
+    Wrote l 0 (result_text names ran.answer) l₁ i₁ → i₁ ≤ 24 → Wrote l₁ i₁ (line (decimal ran.applications ∷ decimal ran.operations ∷ [])) l₂ i₂ →
     (m : Machine) → m.schemes.names ≡ names → Front (ran_line m (outcome ran)) l₂ i₂
 ran_front names ran l l₁ l₂ i₁ i₂ long h k wrote near counts m named =
     rw (whole m ran, named) (front_written _ l l₂ i₂ (line_room l l₁ _ i₁ long wrote near ran.applications ran.operations h k) (wrote_both wrote counts))

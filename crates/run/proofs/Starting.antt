@@ -1,15 +1,14 @@
 -- An accepted program's job, as the first point of a run.
-use Prim.Native.Nat.{ℕ, suc, ◌-◌, ◌≤◌, ◌<◌}
+use Prim.Native.Nat.{ℕ, ◌-◌, ◌≤◌, ◌<◌}
 use native.Mathlib.Omega.{arith}
-use mathlib.Core.Bool.{Bool, true, false, false≢true}
 use mathlib.Core.List.{List}
 use mathlib.Core.Path.{◌≡◌, refl, sym, ap, subst, ◌∙◌}
-use lib.ListN.{length, replicate, length-replicate}
+use lib.ListN.{length}
 use Rattle.scheme.specs.Schemes.{words}
 use Rattle.model.specs.Machine.{Machine, term_in, term_at}
 use Rattle.model.specs.Closed.{Closed}
 use Rattle.model.specs.WellFormed.{TermStands}
-use Rattle.model.specs.Inference.{ruling, Slot, param, row, Shape, GreatestTyping, Judged}
+use Rattle.model.specs.Inference.{ruling, Slot, Shape, GreatestTyping, Judged}
 use Rattle.model.specs.declared.TermRow.{TermRow}
 use Rattle.model.proofs.Unique.{judged_accepted}
 use Rattle.table.specs.Lists.{lists}
@@ -23,28 +22,17 @@ use Rattle.dryrun.specs.Transition.{Tagged}
 use Rattle.dryrun.specs.Run.{nothing_made, refused, Outcome, Runs, itself, most_contexts, last_row, leading, job, NoArrow, allowed, DryRuns, not_accepted, wrong_count, arrow, ran}
 use Rattle.dryrun.proofs.Same.{judged_closed}
 use Rattle.dryrun.proofs.Promises.{never_stuck, never_free}
-use Rattle.environments.specs.Kinds.{function_tag}
-use Rattle.environments.specs.Standing.{Safe, Frames, close, plug, row_of, nothing, a_row}
+use Rattle.environments.specs.Standing.{Safe, close, plug, row_of, nothing, a_row}
+use Rattle.environments.specs.declared.Frame.{Frame}
 use Rattle.environments.proofs.Close.{close_none}
-use Rattle.moves.specs.Moves.{Framed, frames_of}
+use Rattle.std.specs.Prelude.{Err}
+use Rattle.moves.specs.declared.Refusal.{Refusal}
 use Rattle.moves.specs.declared.Point.{Point}
-use Rattle.leading.specs.Leading.{Led, Unfit, Leads, LamsStand, TagsNumbers}
+use Rattle.leading.specs.Leading.{Led, Unfit, LamsStand}
 use Rattle.leading.specs.Leading as Leading
-use Rattle.leading.proofs.Lams.{leading_most}
 use Rattle.evaluator.specs.Evaluation.{outcome, Begins, Evaluates}
 use Rattle.evaluator.specs.declared.Ran.{Ran}
-use Rattle.evaluator.specs.declared.Answer.TheVariants.{Nothing}
 use Rattle.run.specs.First.{first_point}
-
--- No frame is in use.
-pub none_framed : Framed (frames_of (replicate (suc most_contexts) 0) (replicate (suc most_contexts) 0) (replicate (suc most_contexts) 0) (replicate (suc most_contexts) 0))
-none_framed =
-    let size : length {A = ℕ} (replicate (suc most_contexts) 0) ≡ suc most_contexts = length-replicate {A = ℕ} (suc most_contexts) 0 in
-    record { kind = size; tag = size; value = size; place = size }
-
--- So many numbers leave room for the frames of a run.
-pub first_low : {row numbers : ℕ} {p : Point} → p ≡ first_point row numbers → numbers ≤ 256 → p.depth ≤ suc most_contexts
-first_low first few = omega (arith, ap (λ (p : Point). p.depth) first)
 
 module _ (t : Table) (ready : Ready t) (codes : Codes) (judged : Judged (ruling (lists t)) (lists t) 0 0 (coded_word codes) (coded_shape codes)) where
   abbrev m : Machine
@@ -58,10 +46,6 @@ module _ (t : Table) (ready : Ready t) (codes : Codes) (judged : Judged (ruling 
 
   closed : Closed m
   closed = judged_closed judged refl
-
-  -- A word is a qualifier's code, and these end at 8.
-  word_low : (x : ℕ) → x < words m.schemes → ¬ (x ≡ function_tag)
-  word_low x h e = omega (arith, ready.is_well_formed.schemes_sound.few)
 
   pub some_row : 0 < length m.terms
   some_row = closed.some_row
@@ -81,25 +65,9 @@ module _ (t : Table) (ready : Ready t) (codes : Codes) (judged : Judged (ruling 
   pub led_rows : {count : ℕ} → count ≡ length m.terms → Leading.RowsIn m t.terms count
   led_rows {count} counted = record { counted = sym counted; same = λ i h. rows_in i (omega arith) }
 
-  pub tags_numbers : TagsNumbers m word
-  tags_numbers p h = word_low (word (param p)) (accepted.worded (param p) h)
-
   module _ (numbers : List ℕ) where
-    -- What the numbers were put for, by what `lead` answers.
-    pub unled : (f : Frames) (r : Bool) → r ≡ false → Leads m word (coded_shape codes) numbers f r → Unfit m (coded_shape codes) numbers
-    unled f false e leads = leads
-    unled f true e leads = absurd (false≢true (sym e))
-
-    pub led : (f : Frames) (r : Bool) → r ≡ true → Leads m word (coded_shape codes) numbers f r →
-        (length numbers ≡ length (leading m)) × NoArrow m (coded_shape codes) × Led m word numbers f
-    led f true e leads = leads
-    led f false e leads = absurd (false≢true e)
-
-    pub few_numbers : length numbers ≡ length (leading m) → length numbers ≤ 256
-    few_numbers e = omega (arith, leading_most m ready.is_well_formed)
-
     -- 28
-    pub unfit_refused : (budget : ℕ) {r : Ran} → Unfit m (coded_shape codes) numbers → r ≡ record { refusal = 28; applications = 0; operations = 0; answer = Nothing } → DryRuns m numbers budget (outcome r)
+    pub unfit_refused : (budget : ℕ) {r : Ran} → Unfit m (coded_shape codes) numbers → r ≡ record { applications = 0; operations = 0; answer = Err Refusal.NotRun } → DryRuns m numbers budget (outcome r)
     unfit_refused budget (Unfit.wrong_count h) is = rw is (wrong_count judged h)
     unfit_refused budget (Unfit.arrow p h shape) is = rw is (arrow judged p h shape)
 
@@ -112,10 +80,10 @@ module _ (t : Table) (ready : Ready t) (codes : Codes) (judged : Judged (ruling 
           }
 
       -- The first point stands for the job, whatever the cells hold.
-      pub begins : (steps : ℕ) (f : Frames) → Led m word numbers f → Begins m word t.terms codes.rowwords steps (job m word numbers) f (first_point (last_row m) (length numbers))
+      pub begins : (steps : ℕ) (f : List Frame) → Led m word numbers f → Begins m word t.terms codes.rowwords steps (job m word numbers) f (first_point (last_row m))
       begins steps f led =
           record {
-            job = record { is_well_formed = ready.is_well_formed; safe = job_safe; tagged = λ i h. word_low (word (row i)) (accepted.worded (row i) h) };
+            job = record { is_well_formed = ready.is_well_formed; safe = job_safe };
             rows = λ i h. (rows_in i h, refl);
             stands = λ c.
                 let same : job m word numbers ≡ plug led.contexts (close variable (row_of m word (last_row m))) = sym (ap (plug led.contexts) (close_none (row_of m word (last_row m))) ∙ led.plugged) in
@@ -131,15 +99,15 @@ module _ (t : Table) (ready : Ready t) (codes : Codes) (judged : Judged (ruling 
           }
 
       -- What the moves come to is what the call answers.
-      pub evaluated : (steps : ℕ) (f : Frames) (r : Ran) → Led m word numbers f → length numbers ≡ length (leading m) →
-          Evaluates t.terms codes.rowwords steps f (first_point (last_row m) (length numbers)) r → (budget : ℕ) → steps ≡ allowed budget → DryRuns m numbers budget (outcome r)
+      pub evaluated : (steps : ℕ) (f : List Frame) (r : Ran) → Led m word numbers f → length numbers ≡ length (leading m) →
+          Evaluates t.terms codes.rowwords steps f (first_point (last_row m)) r → (budget : ℕ) → steps ≡ allowed budget → DryRuns m numbers budget (outcome r)
       evaluated steps f r led count evaluates budget is =
           ran judged count no_arrow (subst (λ (n : ℕ). Runs (Tagged (ruling m)) n (job m word numbers) nothing_made (outcome r)) is (evaluates m word (job m word numbers) (begins steps f led)))
 
       -- The same at the point that the code makes.
-      module _ (steps : ℕ) (f : Frames) {count : ℕ} {p : Point} (counted : count ≡ length m.terms) (first : p ≡ first_point (count - 1) (length numbers)) where
-        same_point : p ≡ first_point (last_row m) (length numbers)
-        same_point = first ∙ ap (λ (n : ℕ). first_point (n - 1) (length numbers)) counted
+      module _ (steps : ℕ) (f : List Frame) {count : ℕ} {p : Point} (counted : count ≡ length m.terms) (first : p ≡ first_point (count - 1)) where
+        same_point : p ≡ first_point (last_row m)
+        same_point = first ∙ ap (λ (n : ℕ). first_point (n - 1)) counted
 
         pub begins_at : Led m word numbers f → Begins m word t.terms codes.rowwords steps (job m word numbers) f p
         begins_at led = rw same_point (begins steps f led)
@@ -150,5 +118,5 @@ module _ (t : Table) (ready : Ready t) (codes : Codes) (judged : Judged (ruling 
 
 -- A program that infer refuses is refused with 28.
 pub not_judged : {m : Machine} {numbers : List ℕ} {n k : ℕ} {word : Slot → ℕ} {shape : Slot → Shape} (budget : ℕ) {r : Ran} → Judged (ruling m) m n k word shape → ¬ (n ≡ 0) →
-    r ≡ record { refusal = 28; applications = 0; operations = 0; answer = Nothing } → DryRuns m numbers budget (outcome r)
+    r ≡ record { applications = 0; operations = 0; answer = Err Refusal.NotRun } → DryRuns m numbers budget (outcome r)
 not_judged budget judged some is = rw is (not_accepted judged some)

@@ -1,6 +1,6 @@
 use native.Mathlib.Omega.{arith}
 use native.Mathlib.Nat.{mul-le-mul}
-use Rattle.moves.proofs.Calculating.{is_add, is_mul, is_eq, is_lt, is_gt, four}
+use Rattle.moves.proofs.Calculating.{is_add, is_mul, is_eq, is_lt, is_gt, truth}
 use Rattle.moves.proofs.operations.calculate.Goals as goal
 
 pub overflow_mul-result : goal.overflow_mul-result
@@ -13,10 +13,10 @@ pub returns-in-1 : goal.returns-in-1
 returns-in-1 c = is_mul c.args.x c.args.y c.in-1.is
 
 pub returns-in-2 : goal.returns-in-2
-returns-in-2 c = is_eq c.args.x c.args.y c.in-2.is c.truth.ensures
+returns-in-2 c = is_eq c.args.x c.args.y c.in-2.is (truth _)
 
 pub returns-in-3 : goal.returns-in-3
-returns-in-3 c = is_lt c.args.x c.args.y c.in-3.is c.truth-in-3.ensures
+returns-in-3 c = is_lt c.args.x c.args.y c.in-3.is (truth _)
 
 pub returns-in_default : goal.returns-in_default
-returns-in_default c = is_gt c.args.x c.args.y (four c.args.o (omega arith) c.in_default.in_default-own.rest.0.0.0.1 c.in_default.in_default-own.rest.0.0.1 c.in_default.in_default-own.rest.0.1 c.in_default.in_default-own.rest.1) c.truth-in_default.ensures
+returns-in_default c = is_gt c.args.x c.args.y (omega arith) (truth _)

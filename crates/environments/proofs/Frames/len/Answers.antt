@@ -1,0 +1,6 @@
+use native.Mathlib.Omega.{arith}
+use Rattle.environments.proofs.Stacking.{stacked_length}
+use Rattle.environments.proofs.Frames.len.Goals as goal
+
+pub returns : goal.returns
+returns c = let s = c.self.inside in (rw (← c.self.view_is) (omega (arith, stacked_length s.frames s.depth)), c.self.invariant)
