@@ -1,14 +1,12 @@
 // `place`: reads the lines of a table on standard input, and prints the report, or the refusal. A table that it did not read whole has no answer.
 #![tactic(auto)]
 
-use streams::Whole;
-
 fn main(rt: HostRuntime) {
     let mut input = rt.stdin();
     let mut text = [0u8; placement::TEXT];
     match streams::read_whole(&mut input, &rt, &mut text) {
-        Whole::Bytes(length) => answer(&rt, &text[..length]),
-        Whole::Failed(error) => streams::fail(&rt, "place: standard input", error),
+        Ok(length) => answer(&rt, &text[..length]),
+        Err(error) => streams::fail(&rt, "place: standard input", error),
     }
 }
 

@@ -5,7 +5,7 @@ use native.Mathlib.Decide.{ℕ_discrete}
 use mathlib.Core.List.{List}
 use mathlib.Core.Path.{◌≡◌, sym, ap, ap₂, subst, ◌∙◌}
 use lib.ListN.{length, take}
-use lib.Seq.{take_all, take-append_seam}
+use lib.Seq.{take-append_seam}
 use borrow.Author.Tests.{eq-eqb, ne_eqb}
 use Rattle.scheme.specs.Schemes.{SchemeTable, Sound}
 use Rattle.schemes.specs.Schemes.{table_in}
@@ -27,18 +27,13 @@ use Rattle.evaluator.specs.declared.Ran.{Ran}
 use Rattle.run.specs.Answered.{Answered}
 use Rattle.report.specs.Writing.{Room, Wrote, Front, pair_text}
 use Rattle.report.proofs.Fronts.{front_written, pair_room}
-use Rattle.inference.specs.Outcome.{outcome}
 use Rattle.inference.specs.Printed.{Printed}
-use Rattle.inference.specs.declared.Inferred.{Inferred}
 use Rattle.inference.proofs.Corollaries.{refused_judged, reported_judged, infers_bounded}
 
-pub front_whole : (text : List ℕ) → length text ≤ 25025 → text ≡ take 25025 text
-front_whole text h = sym (take_all 25025 text h)
-
 -- An infer call on what was loaded returns small numbers.
-pub bounded : (T : SchemeTable) (part buffer : List ℕ) (r : Loaded) (o : Inferred) (middle : List ℕ) → Loads T part r → Infers (lists r.table) buffer (outcome o middle) →
+pub bounded : (T : SchemeTable) (part buffer : List ℕ) (r : Loaded) (o : Outcome) → Loads T part r → Infers (lists r.table) buffer o →
     (o.number ≤ 24) × (o.row ≤ 255) × (o.size ≤ 6280)
-bounded T part buffer r o middle loads infers = infers_bounded (well_formed_within _ loads.ready.is_well_formed) infers
+bounded T part buffer r o loads infers = infers_bounded (well_formed_within _ loads.ready.is_well_formed) infers
 
 -- The loader's entry, which looks at the part of the text that decides.
 module _ {T : SchemeTable} (sound : Sound T) (text part buffer : List ℕ) (is : part ≡ take 25025 text) (r : Loaded) (loads : Loads T part r) where
@@ -48,12 +43,12 @@ module _ {T : SchemeTable} (sound : Sound T) (text part buffer : List ℕ) (is :
   pub add_returned : ¬ (r.number ≡ 0) → 6280 ≤ length buffer → Returns T text buffer (r.number * 1000 + r.line) buffer
   add_returned stop long = decides (Returns.refused_add long (loads.stop stop))
 
-  module _ (o : Inferred) (middle : List ℕ) (infers : Infers (lists r.table) buffer (outcome o middle)) where
+  module _ (o : Outcome) (infers : Infers (lists r.table) buffer o) where
     module _ (all : r.number ≡ 0) (long : 6280 ≤ length buffer) where
-      pub inference_returned : ¬ (o.number ≡ 0) → Returns T text buffer (o.number * 1000 + o.row) middle
+      pub inference_returned : ¬ (o.number ≡ 0) → Returns T text buffer (o.number * 1000 + o.row) o.buffer
       inference_returned stop = decides (Returns.refused_inference long (loads.all all) infers stop)
 
-      pub report_returned : o.number ≡ 0 → Returns T text buffer (100000 + o.size) middle
+      pub report_returned : o.number ≡ 0 → Returns T text buffer (100000 + o.size) o.buffer
       report_returned accepted = decides (Returns.reported long (loads.all all) infers accepted)
 
 -- The entry under a scheme file.

@@ -2,7 +2,7 @@
 // program prints.
 #![tactic(auto)]
 
-ghost use Rattle.std.specs.Prelude.{◌≡◌, ◌≤◌, length, take};
+ghost use Rattle.std.specs.Prelude.{◌≡◌, ◌+◌, ◌*◌, ◌≤◌, length, take};
 ghost use Rattle.scheme.specs.Six.{six_table};
 ghost use Rattle.schemes.specs.Schemes.{table_in, Kept};
 ghost use Rattle.conversation.specs.Script.{Responds};
@@ -10,7 +10,7 @@ ghost use Rattle.model.specs.Text.{Prints, Returns, ReturnsUnder};
 ghost use Rattle.dryrun.specs.Entry.{RunReturns, RunReturnsUnder};
 
 use schemes::Schemes;
-use script::Layer;
+use script::ByValue;
 
 // What stands in a text after this many bytes does not matter: 385 lines of 64 bytes and a line feed (`load-front`).
 pub const TEXT: usize = 25025;
@@ -18,7 +18,8 @@ pub const TEXT: usize = 25025;
 // The places of a dry run's answer: the number, its tag, the applications and the operations.
 const ANSWER: usize = 4;
 
-// What the entries return for a buffer that is shorter than the longest report, and for an answer without its four places.
+// What the entries return for a buffer that is shorter than the longest report, and for an answer without its four places. C calls the entries, so
+// refusals are numbers here.
 const SHORT: u32 = 11000;
 
 // The length of the longest text that `place` prints.
@@ -41,7 +42,7 @@ pub fn placement_report_under(file: &[u8], text: &[u8], buffer: &mut [u8]) -> u3
     }
     let opened = Schemes::open(file);
     if opened.number != 0 {
-        return opened.number as u32 * 1000;
+        return refused(opened.number, 0);
     }
     report(opened.schemes, text, buffer)
 }
@@ -69,7 +70,7 @@ pub fn placement_run_under(
     }
     let under = Schemes::open(file);
     if under.number != 0 {
-        return under.number as u32 * 1000;
+        return refused(under.number, 0);
     }
     run_text(under.schemes, text, numbers, budget, answer)
 }
@@ -82,9 +83,9 @@ fn run_text(schemes: Schemes, text: &[u8], numbers: &[u32], budget: u32, answer:
     if answer.len() < ANSWER {
         return SHORT;
     }
-    let loaded = text::load(schemes, front(text));
+    let loaded = text::load(schemes, schemes::front(text, TEXT));
     if loaded.number != 0 {
-        return loaded.number as u32 * 1000 + loaded.line as u32;
+        return refused(loaded.number, loaded.line);
     }
     run::write_answer(run::dry_run(loaded.table, numbers, budget), answer)
 }
@@ -97,32 +98,29 @@ fn report(schemes: Schemes, text: &[u8], buffer: &mut [u8]) -> u32
     if buffer.len() < inference::REPORT {
         return SHORT;
     }
-    let loaded = text::load(schemes, front(text));
+    let loaded = text::load(schemes, schemes::front(text, TEXT));
     if loaded.number != 0 {
-        return loaded.number as u32 * 1000 + loaded.line as u32;
+        return refused(loaded.number, loaded.line);
     }
-    let inferred = inference::infer(loaded.table, buffer);
-    if inferred.number != 0 {
-        return inferred.number as u32 * 1000 + inferred.row as u32;
+    match inference::infer(loaded.table, buffer) {
+        Ok(size) => 100000 + size as u32,
+        Err(reason) => refused(reason.number as u16, reason.row),
     }
-    100000 + inferred.size as u32
 }
 
-// The part of a text that decides.
-fn front(text: &[u8]) -> &[u8]
-    ensures { result.now ≡ take 25025 text.now }
+// What the entries return for a refusal: 1,000 times its number, and the line or row that it names.
+fn refused(number: u16, place: usize) -> u32
+    requires { place ≤ 399 }
+    ensures { result ≡ number * 1000 + place }
 {
-    if text.len() <= TEXT {
-        return text;
-    }
-    &text[..TEXT]
+    number as u32 * 1000 + place as u32
 }
 
 // The loader's entry for scripts: the length of all answers, which stand in the output where there is room for all of them.
 pub fn placement_session(script: &[u8], output: &mut [u8]) -> usize
     ensures { Responds script.now output.old result output.new }
 {
-    script::respond(Layer::ByValue, script, output)
+    script::respond::<ByValue>(script, output)
 }
 
 // Writes what `place` prints for a text, and returns its length.

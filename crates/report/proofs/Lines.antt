@@ -10,7 +10,7 @@ use Rattle.model.specs.Number.{decimal}
 use Rattle.model.specs.Word.{qualifier_word}
 use Rattle.model.specs.Report.{line, lines}
 use Rattle.report.specs.Writing.{Room, Wrote, variable_text, variable_at}
-use Rattle.report.proofs.Writing.{Left, room_first, left_whole, left_rest, left_nothing, wrote_nothing}
+use Rattle.report.proofs.Writing.{Left, room_first, left_rest, left_nothing, wrote_nothing}
 
 -- Within a list the default is never read.
 default : (l : List ℕ) (k d d' : ℕ) → k < length l → get_or l k d ≡ get_or l k d'
@@ -50,9 +50,6 @@ lines_more f i n h = let e : n - i ≡ suc (n - (i + 1)) = omega arith in rw e
 lines_none : (f : ℕ → List ℕ) (i n : ℕ) → n ≤ i → lines f i (n - i) ≡ []
 unfolding lines
 lines_none f i n h = let e : n - i ≡ 0 = omega arith in rw e
-
-pub turn_start : (f : ℕ → List ℕ) (n : ℕ) {l : List ℕ} {at : ℕ} → Room l at (lines f 0 n) → Left l at (lines f 0 (n - 0)) l at (lines f 0 n)
-turn_start f n p = let e : n - 0 ≡ n = omega arith in rw e (left_whole p)
 
 module _ (f : ℕ → List ℕ) (i n : ℕ) {l l₀ whole : List ℕ} {at at₀ : ℕ} (p : Left l at (lines f i (n - i)) l₀ at₀ whole) where
   pub turn_room : i < n → Room l at (f i)

@@ -19,9 +19,9 @@ use Rattle.model.proofs.Limits.{Within}
 use Rattle.model.proofs.Length.{report_length}
 use Rattle.report.specs.Codes.{coded_word, coded_shape}
 use Rattle.report.specs.declared.Codes.{Codes}
-use Rattle.report.specs.Writing.{Room}
+use Rattle.report.specs.Writing.{Room, Spelled, words_in}
 use Rattle.report.specs.Written.{Short, Matches, Written}
-use Rattle.report.proofs.Text.{text, is_report}
+use Rattle.report.proofs.Text.{text, is_report, same_text}
 
 -- n type rows for n variables, the first with the code c: a row names its variable where that is listed, and nothing else.
 naming : ℕ → (ℕ → Bool) → ℕ → List TypeRow
@@ -104,3 +104,8 @@ module _ (names : List (List ℕ)) (short : Short names) (c : Codes) (params row
     -- What `write` returns is a place in the buffer, whatever the codes are.
     pub written_length : {before after : List ℕ} {returned : ℕ} → Written names c params rows before after returned → returned ≤ 6280
     written_length w = omega (arith, w.size witness same_names matching, report_length witness within (coded_word c) (coded_shape c))
+
+-- The same for the text with the words of a table that spells the names.
+pub table_room : (table : List ℕ) (names : List (List ℕ)) → Short names → Spelled table names → (c : Codes) (params rows : ℕ) {l : List ℕ}
+    → (params ≤ 64) × (rows ≤ 256) × (6280 ≤ length l) → Room l 0 (text (words_in table) c params rows)
+table_room table names short spelled c params rows {l} fits = rw (same_text table names spelled c params rows) (text_room names short c params rows fits.0 fits.1 l fits.2)

@@ -1,30 +1,14 @@
--- The words of the report, as arrays of five bytes and the table spell them.
+-- The words of the report, as the table spells them.
 use Prim.Native.Nat.{ℕ, zero, suc, ◌+◌, ◌-◌, ◌*◌, ◌≤◌, ◌<◌}
 use native.Mathlib.Omega.{arith}
-use mathlib.Core.Bool.{true}
 use mathlib.Core.List.{List, [], ◌∷◌, ◌++◌}
-use mathlib.Core.Path.{◌≡◌, refl, ap, sym, ◌∙◌}
-use lib.Dec.{leb}
-use lib.ListN.{length, get_or, take, drop, set}
-use borrow.Author.Tests.{leb-true}
+use mathlib.Core.Path.{◌≡◌, refl, ◌∙◌}
+use lib.ListN.{get_or, take, drop, set}
 use Rattle.model.specs.Lists.{bytes}
 use Rattle.model.specs.Word.{qualifier_word}
-use Rattle.report.specs.Writing.{Room, Wrote, Spells, words_in}
+use Rattle.report.specs.Writing.{Room, Wrote, words_in}
 use Rattle.report.proofs.Tables.{size_at, words_at_lem, words_past}
 use Rattle.report.proofs.Writing.{wrote_byte}
-
--- An array spells the word of a code where it spells that of the number that the code was found to be.
-pub spells_at : (word : ℕ → List ℕ) {array : List ℕ} {size code k : ℕ}
-    → code ≡ k → take size array ≡ word k → leb size (length array) ≡ true → Spells array size (word code)
-spells_at word {array} {size} e b room = record { bytes = b ∙ ap word (sym e); room = leb-true size (length array) room }
-
--- To write the bytes that spell a word is to write the word.
-pub spelled_room : {l array word : List ℕ} {i size : ℕ} (end : List ℕ) → Spells array size word → Room l i (word ++ end) → Room l i (take size array ++ end)
-spelled_room end s p = rw s.bytes p
-
-pub spelled_wrote : {l array word l' : List ℕ} {i size i' : ℕ} (end : List ℕ)
-    → Spells array size word → Wrote l i (take size array ++ end) l' i' → Wrote l i (word ++ end) l' i'
-spelled_wrote end s p = rw s.bytes at p
 
 -- A qualifier's word is PLAIN, or the word of the table that stands before its code.
 plain_word : (names : List (List ℕ)) (code : ℕ) → code ≡ 0 → qualifier_word names code ≡ bytes "PLAIN"
@@ -47,9 +31,6 @@ module _ {l : List ℕ} {i : ℕ} (names : List (List ℕ)) (code : ℕ) (end : 
 module _ (t : List ℕ) (code : ℕ) (past : 8 < code) where
   no_word : qualifier_word (words_in t) code ≡ []
   no_word = named_word (words_in t) code (λ e. omega arith) ∙ words_past 8 (code - 1) t (omega arith)
-
-  pub no_word_room : {l : List ℕ} {i : ℕ} (end : ℕ) → Room l i (qualifier_word (words_in t) code ++ (end ∷ [])) → i < length l
-  no_word_room end p = omega (arith, (rw no_word at p).fits)
 
   pub no_word_wrote : (l : List ℕ) (i end : ℕ) → Wrote l i (qualifier_word (words_in t) code ++ (end ∷ [])) (set l i end) (i + 1)
   no_word_wrote l i end = rw no_word (wrote_byte l i end)

@@ -21,11 +21,6 @@ pub record Front (w l : List ℕ) (size : ℕ) : Type 0 where
   pub bytes : take size l ≡ w
   pub fits : size ≤ length l
 
--- The first bytes of an array are the word.
-pub record Spells (array : List ℕ) (size : ℕ) (word : List ℕ) : Type 0 where
-  pub bytes : take size array ≡ word
-  pub room : size ≤ length array
-
 -- The first n words of a table: eight bytes each, of which the last says how many its word has.
 unfoldable pub first_words : ℕ → List ℕ → List (List ℕ)
 first_words zero table = []

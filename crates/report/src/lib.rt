@@ -1,19 +1,20 @@
 // Writes the report of a typed program into a lent buffer, from the codes of its words and shapes. The names of the schemes are parted by commas.
 #![tactic(auto)]
 
-ghost use Rattle.std.specs.Prelude.{[], ◌∷◌, ◌++◌, ◌+◌, ◌≤◌, ◌<◌, length, take};
+ghost use Rattle.std.specs.Prelude.{[], ◌∷◌, ◌++◌, ◌≡◌, ◌+◌, ◌≤◌, ◌<◌, length};
 ghost use Rattle.model.specs.Lists.{bytes};
 ghost use Rattle.model.specs.Number.{decimal};
 ghost use Rattle.model.specs.Line.{fields};
 ghost use Rattle.model.specs.Word.{qualifier_word};
 ghost use Rattle.model.specs.Report.{lines, shape_word};
-ghost use Rattle.report.specs.Codes.{shape_of_code, codes_of};
-ghost use Rattle.report.specs.Writing.{Room, Wrote, Spells, Tabled, Spelled, words_in, pair_text, variable_text, slot_text, variable_at, slot_at};
+ghost use Rattle.report.specs.Codes.{shape_of_code};
+ghost use Rattle.report.specs.Writing.{Room, Wrote, Tabled, Spelled, words_in, pair_text, variable_text, slot_text, variable_at, slot_at};
 ghost use Rattle.report.specs.Written.{Short, Written};
 
 use model::{PARAMS, TERMS, VARIABLES};
 
 // The code of a word for each named variable, 9 where it is not listed, and the codes of a word and a shape for each parameter and each term row.
+// They are bytes and no enums, since `write` promises its report for any codes; the words stand apart, since floors and dry runs are lent them alone.
 #[derive(Clone, Copy)]
 pub struct Codes {
     pub variables: [u8; VARIABLES],
@@ -23,58 +24,59 @@ pub struct Codes {
     pub rowshapes: [u8; TERMS],
 }
 
-// A word of the report: bytes that begin with it, and how many of them it has.
-#[derive(Clone, Copy)]
-struct Word([u8; 5], usize);
-
-// The room of eight words, since no scheme table has more names: eight bytes each, of which the last says how many its word has.
+// The room of eight words, since no scheme table has more names: eight bytes each, of which the last says how many its word has (no heap is used).
 const WORDS: usize = 64;
 
-// The table of the names, so that a name is found once and not for each slot.
-fn word_table(names: &[u8]) -> [u8; WORDS]
-    requires { Short (fields names.now) }
-    ensures { Tabled result × Spelled result (fields names.now) }
-{
-    let mut words = [0u8; WORDS];
-    let mut k = 0;
-    let mut i = 0;
-    while i < names.len() {
-        if names[i] == b',' {
-            k += 1;
-            i += 1;
-        } else {
-            let last = 8 * k + 7;
-            let size = words[last];
-            words[8 * k + size as usize] = names[i];
-            words[last] = size + 1;
-            i += 1;
+// The table of the schemes' words, so that a name is found once and not for each slot.
+#[derive(Clone, Copy)]
+struct WordTable {
+    bytes: [u8; WORDS],
+    ghost tabled: { Tabled bytes },
+}
+
+impl WordTable {
+    fn new(names: &[u8]) -> WordTable
+        requires { Short (fields names.now) }
+        ensures { Spelled result.bytes (fields names.now) }
+    {
+        let mut bytes = [0u8; WORDS];
+        let mut k = 0;
+        for &byte in names {
+            if byte == b',' {
+                k += 1;
+            } else {
+                let last = 8 * k + 7;
+                let size = bytes[last];
+                bytes[8 * k + size as usize] = byte;
+                bytes[last] = size + 1;
+            }
         }
+        WordTable { bytes }
     }
-    words
 }
 
 // A shape's word: ANY for every code but two.
-fn shape_word(code: u8) -> Word
-    ensures { Spells result.0 result.1 (shape_word (shape_of_code code)) }
+fn shape_word(code: u8) -> &'static [u8]
+    ensures { result.now ≡ shape_word (shape_of_code code) }
 {
     match code {
-        0 => Word(*b"INT  ", 3),
-        1 => Word(*b"ARROW", 5),
-        _ => Word(*b"ANY  ", 3),
+        0 => b"INT",
+        1 => b"ARROW",
+        _ => b"ANY",
     }
 }
 
-// Writes a text, and returns the place after it, as the next ones do.
+// Writes a text, and returns the place after it, as the next ones do. The buffer and the place are no struct: each contract would have to say
+// besides that the struct still has the buffer that it was made with.
 pub fn write_text(buffer: &mut [u8], at: usize, text: &[u8]) -> usize
     requires { Room buffer.old at text.now }
     ensures { Wrote buffer.old at text.now buffer.new result }
 {
-    let mut i = 0;
-    while i < text.len() {
-        buffer[at + i] = text[i];
-        i += 1;
+    // Not copy_from_slice: the theorem of `answered` links all code that inference reaches, and std's functions cannot be linked.
+    for (i, &byte) in text.iter().enumerate() {
+        buffer[at + i] = byte;
     }
-    at + i
+    at + text.len()
 }
 
 // Writes a field and the byte that ends it.
@@ -87,7 +89,7 @@ fn write_field(buffer: &mut [u8], at: usize, text: &[u8], end: u8) -> usize
     last + 1
 }
 
-// Writes the digits of a number: those of its tenth part first.
+// Writes the digits of a number: those of its tenth part first. Not by std's formatting, which could not be linked either.
 fn write_digits(buffer: &mut [u8], at: usize, n: usize) -> usize
     requires { Room buffer.old at (decimal n) }
     ensures { Wrote buffer.old at (decimal n) buffer.new result }
@@ -111,20 +113,10 @@ pub fn write_number(buffer: &mut [u8], at: usize, n: usize, end: u8) -> usize
     last + 1
 }
 
-// Writes a word and the byte that ends its field.
-fn write_word(buffer: &mut [u8], at: usize, word: Word, end: u8) -> usize
-    requires { (word.1 ≤ length word.0) × Room buffer.old at (take word.1 word.0 ++ (end ∷ [])) }
-    ensures { Wrote buffer.old at (take word.1 word.0 ++ (end ∷ [])) buffer.new result }
-{
-    let bytes = word.0;
-    let size = word.1;
-    write_field(buffer, at, &bytes[..size], end)
-}
-
 // Writes the word of a qualifier's code and the byte that ends its field: PLAIN, or the word of the table that stands before its code.
-fn write_qualifier(buffer: &mut [u8], at: usize, words: &[u8], code: u8, end: u8) -> usize
-    requires { Tabled words.now × Room buffer.old at (qualifier_word (words_in words.now) code ++ (end ∷ [])) }
-    ensures { Wrote buffer.old at (qualifier_word (words_in words.now) code ++ (end ∷ [])) buffer.new result }
+fn write_qualifier(buffer: &mut [u8], at: usize, words: &WordTable, code: u8, end: u8) -> usize
+    requires { Room buffer.old at (qualifier_word (words_in words.now.bytes) code ++ (end ∷ [])) }
+    ensures { Wrote buffer.old at (qualifier_word (words_in words.now.bytes) code ++ (end ∷ [])) buffer.new result }
 {
     if code == 0 {
         return write_field(buffer, at, b"PLAIN", end);
@@ -135,8 +127,8 @@ fn write_qualifier(buffer: &mut [u8], at: usize, words: &[u8], code: u8, end: u8
         return at + 1;
     }
     let from = 8 * (code as usize - 1);
-    let size = words[from + 7] as usize;
-    write_field(buffer, at, &words[from..from + size], end)
+    let size = words.bytes[from + 7] as usize;
+    write_field(buffer, at, &words.bytes[from..from + size], end)
 }
 
 // Writes the word of a qualifier's code and the byte that ends its field, from the names of the schemes.
@@ -145,7 +137,7 @@ pub fn write_named(buffer: &mut [u8], at: usize, names: &[u8], code: u8, end: u8
     requires fact_2 { Room buffer.old at (qualifier_word (fields names.now) code ++ (end ∷ [])) }
     ensures { Wrote buffer.old at (qualifier_word (fields names.now) code ++ (end ∷ [])) buffer.new result }
 {
-    let words = word_table(names);
+    let words = WordTable::new(names);
     write_qualifier(buffer, at, &words, code, end)
 }
 
@@ -154,8 +146,7 @@ fn write_shape(buffer: &mut [u8], at: usize, code: u8, end: u8) -> usize
     requires { Room buffer.old at (shape_word (shape_of_code code) ++ (end ∷ [])) }
     ensures { Wrote buffer.old at (shape_word (shape_of_code code) ++ (end ∷ [])) buffer.new result }
 {
-    let word = shape_word(code);
-    write_word(buffer, at, word, end)
+    write_field(buffer, at, shape_word(code), end)
 }
 
 // Writes a line of a word and two numbers.
@@ -177,9 +168,9 @@ fn write_counts(buffer: &mut [u8], at: usize, params: usize, rows: usize) -> usi
 }
 
 // Writes the line of a variable whose code is a word's.
-fn write_variable(buffer: &mut [u8], at: usize, words: &[u8], k: usize, code: u8) -> usize
-    requires { Tabled words.now × Room buffer.old at (variable_text (words_in words.now) k code) }
-    ensures { Wrote buffer.old at (variable_text (words_in words.now) k code) buffer.new result }
+fn write_variable(buffer: &mut [u8], at: usize, words: &WordTable, k: usize, code: u8) -> usize
+    requires { Room buffer.old at (variable_text (words_in words.now.bytes) k code) }
+    ensures { Wrote buffer.old at (variable_text (words_in words.now.bytes) k code) buffer.new result }
 {
     if code < 9 {
         let number = write_field(buffer, at, b"G", b',');
@@ -193,14 +184,14 @@ fn write_variable(buffer: &mut [u8], at: usize, words: &[u8], k: usize, code: u8
 fn write_slot(
     buffer: &mut [u8],
     at: usize,
-    words: &[u8],
+    words: &WordTable,
     tag: u8,
     i: usize,
     code: u8,
     shape: u8,
 ) -> usize
-    requires { Tabled words.now × Room buffer.old at (slot_text (words_in words.now) tag i code shape) }
-    ensures { Wrote buffer.old at (slot_text (words_in words.now) tag i code shape) buffer.new result }
+    requires { Room buffer.old at (slot_text (words_in words.now.bytes) tag i code shape) }
+    ensures { Wrote buffer.old at (slot_text (words_in words.now.bytes) tag i code shape) buffer.new result }
 {
     let letter = [tag];
     let number = write_field(buffer, at, &letter, b',');
@@ -210,15 +201,18 @@ fn write_slot(
 }
 
 // Writes the lines of the variables, rising.
-fn write_variables(buffer: &mut [u8], at: usize, words: &[u8], variables: &[u8]) -> usize
-    requires { Tabled words.now × (64 ≤ length variables.now) × Room buffer.old at (lines (variable_at (words_in words.now) variables.now) 0 64) }
-    ensures { Wrote buffer.old at (lines (variable_at (words_in words.now) variables.now) 0 64) buffer.new result }
+fn write_variables(
+    buffer: &mut [u8],
+    at: usize,
+    words: &WordTable,
+    variables: &[u8; VARIABLES],
+) -> usize
+    requires { Room buffer.old at (lines (variable_at (words_in words.now.bytes) variables.now) 0 64) }
+    ensures { Wrote buffer.old at (lines (variable_at (words_in words.now.bytes) variables.now) 0 64) buffer.new result }
 {
     let mut next = at;
-    let mut k = 0;
-    while k < 64 {
+    for k in 0..VARIABLES {
         next = write_variable(buffer, next, words, k, variables[k]);
-        k += 1;
     }
     next
 }
@@ -227,20 +221,18 @@ fn write_variables(buffer: &mut [u8], at: usize, words: &[u8], variables: &[u8])
 fn write_slots(
     buffer: &mut [u8],
     at: usize,
-    words: &[u8],
+    words: &WordTable,
     tag: u8,
     codes: &[u8],
     shapes: &[u8],
     count: usize,
 ) -> usize
-    requires { Tabled words.now × (count ≤ length codes.now) × (count ≤ length shapes.now) × Room buffer.old at (lines (slot_at (words_in words.now) tag codes.now shapes.now) 0 count) }
-    ensures { Wrote buffer.old at (lines (slot_at (words_in words.now) tag codes.now shapes.now) 0 count) buffer.new result }
+    requires { (count ≤ length codes.now) × (count ≤ length shapes.now) × Room buffer.old at (lines (slot_at (words_in words.now.bytes) tag codes.now shapes.now) 0 count) }
+    ensures { Wrote buffer.old at (lines (slot_at (words_in words.now.bytes) tag codes.now shapes.now) 0 count) buffer.new result }
 {
     let mut next = at;
-    let mut i = 0;
-    while i < count {
+    for i in 0..count {
         next = write_slot(buffer, next, words, tag, i, codes[i], shapes[i]);
-        i += 1;
     }
     next
 }
@@ -251,53 +243,25 @@ pub fn write(buffer: &mut [u8], names: &[u8], codes: Codes, params: usize, rows:
     requires { (Short (fields names.now)) × ((params ≤ 64) × (rows ≤ 256) × (6280 ≤ length buffer.old)) }
     ensures { Written (fields names.now) codes params rows buffer.old buffer.new result }
 {
-    let variables = codes.variables;
-    let paramwords = codes.paramwords;
-    let paramshapes = codes.paramshapes;
-    let rowwords = codes.rowwords;
-    let rowshapes = codes.rowshapes;
-    write_arrays(
-        buffer,
-        names,
-        &variables,
-        &paramwords,
-        &paramshapes,
-        &rowwords,
-        &rowshapes,
-        params,
-        rows,
-    )
-}
-
-// The same from the arrays of the codes: lent as they are, they tell their lengths.
-fn write_arrays(
-    buffer: &mut [u8],
-    names: &[u8],
-    variables: &[u8; VARIABLES],
-    paramwords: &[u8; PARAMS],
-    paramshapes: &[u8; PARAMS],
-    rowwords: &[u8; TERMS],
-    rowshapes: &[u8; TERMS],
-    params: usize,
-    rows: usize,
-) -> usize
-    requires fact_1 { Short (fields names.now) }
-    requires fact_2 { (params ≤ 64) × (rows ≤ 256) × (6280 ≤ length buffer.old) }
-    ensures { Written (fields names.now)
-        (codes_of variables.now paramwords.now paramshapes.now rowwords.now rowshapes.now)
-        params rows buffer.old buffer.new result }
-{
-    let words = word_table(names);
+    let words = WordTable::new(names);
     let first = write_counts(buffer, 0, params, rows);
-    let second = write_variables(buffer, first, &words, variables);
+    let second = write_variables(buffer, first, &words, &codes.variables);
     let third = write_slots(
         buffer,
         second,
         &words,
         b'P',
-        paramwords,
-        paramshapes,
+        &codes.paramwords,
+        &codes.paramshapes,
         params,
     );
-    write_slots(buffer, third, &words, b'E', rowwords, rowshapes, rows)
+    write_slots(
+        buffer,
+        third,
+        &words,
+        b'E',
+        &codes.rowwords,
+        &codes.rowshapes,
+        rows,
+    )
 }

@@ -3,7 +3,7 @@ use Prim.Native.Nat.{ℕ, ◌-◌, ◌≤◌}
 use native.Mathlib.Omega.{arith}
 use mathlib.Core.List.{List, [], ◌∷◌, ◌++◌}
 use mathlib.Core.Path.{◌≡◌, refl, sym, ap, subst, ◌∙◌}
-use lib.ListN.{length, take, drop, set}
+use lib.ListN.{length, take, drop}
 use Rattle.model.specs.Number.{decimal}
 use Rattle.model.specs.Machine.{Machine, Change, added, redeclared, taken_back}
 use Rattle.model.specs.Report.{line}
@@ -134,8 +134,6 @@ unfolding line
 number_front buffer after n size h long wrote = front_written (decimal n ++ (10 ∷ [])) buffer after size (small_room buffer n h long) wrote
 
 -- A question mark and a line feed.
-pub unknown_front : (buffer : List ℕ) → 6280 ≤ length buffer → Front unknown (set (set buffer 0 63) 1 10) 2
+pub unknown_front : (buffer after : List ℕ) (size : ℕ) → 6280 ≤ length buffer → Wrote buffer 0 (63 ∷ 10 ∷ []) after size → Front unknown after size
 unfolding line
-unknown_front [] long = absurd (omega arith)
-unknown_front (a ∷ []) long = absurd (omega arith)
-unknown_front (a ∷ b ∷ rest) long = record { bytes = refl; fits = omega arith }
+unknown_front buffer after size long wrote = front_written (63 ∷ 10 ∷ []) buffer after size (record { fits = omega arith }) wrote

@@ -1,13 +1,14 @@
 -- A scheme file that stands on one line: its front is copied with line feeds, and decides what the command leaves.
-use Prim.Native.Nat.{ℕ, ◌+◌, ◌≤◌, ◌<◌}
+use Prim.Native.Nat.{ℕ, ◌+◌, ◌<◌, min}
 use native.Mathlib.Numerals.{add-one}
 use native.Mathlib.Omega.{arith}
 use mathlib.Core.Bool.{cond}
 use mathlib.Core.List.{List}
 use mathlib.Core.Path.{◌≡◌, refl, sym, ap, ◌∙◌}
 use lib.Dec.{eqb}
-use lib.ListN.{length, get_or, take, set, length-set, length-map, get_or-map}
-use lib.Seq.{take_all, take-suc, take-suc-set}
+use lib.ListN.{length, get_or, take, set, length-map, get_or-map}
+use lib.Seq.{take-suc, take-suc-set}
+use Rattle.std.proofs.lemmas.List.{take_min}
 use borrow.Author.Tests.{eq-eqb, ne_eqb}
 use Rattle.model.specs.Machine.{Change, settled}
 use Rattle.model.specs.SchemeFile.{opened_with, opened}
@@ -31,37 +32,21 @@ module _ (b : ℕ) where
   other_unblanked z = simp (ne_eqb b 32 z)
 
 -- The first i bytes are copied.
-pub record Parting (line before now : List ℕ) (i : ℕ) : Type 0 where
-  pub room : length now ≡ length before
-  pub within : i ≤ length now
-  pub bytes : take i now ≡ take i (file_in line)
-
-pub part_first : (line before : List ℕ) → Parting line before before 0
-part_first line before = record { room = refl; within = omega arith; bytes = refl }
-
-module _ (line before now : List ℕ) (i : ℕ) (parting : Parting line before now i) where
+module _ (line now : List ℕ) (i : ℕ) (copied : take i now ≡ take i (file_in line)) where
   count : length (file_in line) ≡ length line
   count = length-map line (λ b. cond (eqb b 32) 10 b)
 
-  pub part-byte : (b : ℕ) → b ≡ cond (eqb (get_or line i 0) 32) 10 (get_or line i 0) → i < length line → i < length now → Parting line before (set now i b) (i + 1)
-  part-byte b is h k =
+  pub part_byte : (b : ℕ) → b ≡ cond (eqb (get_or line i 0) 32) 10 (get_or line i 0) → i < length line → i < length now → take (i + 1) (set now i b) ≡ take (i + 1) (file_in line)
+  part_byte b is h k =
       let byte : b ≡ get_or (file_in line) i 0 = is ∙ sym (get_or-map (λ b. cond (eqb b 32) 10 b) line i 0) in
-      record {
-        room = length-set now i b ∙ parting.room;
-        within = simp length-set (omega arith);
-        bytes = rw (add-one, take-suc-set now i b k, take-suc (file_in line) i 0 (omega (arith, count)), parting.bytes, byte) refl;
-      }
+      rw (add-one, take-suc-set now i b k, take-suc (file_in line) i 0 (omega (arith, count)), copied, byte) refl
 
-  pub part_full : length now ≤ i → Parted line before now i
-  part_full h =
-      let all : i ≡ length before = omega (arith, parting.within, parting.room) in
-      record { bytes = parting.bytes ∙ ap (λ (n : ℕ). take n (file_in line)) all; fits = parting.within }
-
-  pub part_end : length line ≤ i → Parted line before now i
-  part_end h =
+  pub part_end : (before : List ℕ) → length now ≡ length before → i ≡ min (length line) (length before) → Parted line before now i
+  part_end before room all =
+      let most : i ≡ min (length before) (length (file_in line)) = omega (arith, count) in
       record {
-        bytes = parting.bytes ∙ take_all i (file_in line) (omega (arith, count)) ∙ sym (take_all (length before) (file_in line) (omega (arith, count, parting.within, parting.room)));
-        fits = parting.within;
+        bytes = copied ∙ ap (λ (n : ℕ). take n (file_in line)) most ∙ take_min (length before) (file_in line);
+        fits = omega arith;
       }
 
 -- The table of the front is the whole file's.

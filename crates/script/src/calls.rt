@@ -6,33 +6,52 @@ ghost use Rattle.table.specs.Lists.{lists, change};
 ghost use Rattle.table.specs.Ready.{Ready};
 ghost use Rattle.script.specs.Turns.{Parted};
 
-use crate::{FILE, Layer};
+use crate::FILE;
 use table::{Answered, Table};
 
-pub(crate) fn add(layer: Layer, table: Table, line: &[u8]) -> Answered
-    ensures { (change result ≡ added (lists table) line.now) × (result.table.schemes ≡ table.schemes) }
-{
-    match layer {
-        Layer::ByValue => table.add(line),
-        Layer::Lent => owner::add(table, line),
+// How the calls that change the table are made. Either way a call does the same.
+pub trait Calls {
+    fn add(table: Table, line: &[u8]) -> Answered
+        ensures { (change result ≡ added (lists table) line.now) × (result.table.schemes ≡ table.schemes) };
+
+    fn redeclare(table: Table, p: usize, code: usize) -> Answered
+        ensures { (change result ≡ redeclared (lists table) p code) × (result.table.schemes ≡ table.schemes) };
+
+    fn take_back(table: Table) -> Answered
+        ensures { (change result ≡ taken_back (lists table)) × (result.table.schemes ≡ table.schemes) };
+}
+
+// By the calls that take the table and hand it back.
+pub struct ByValue;
+
+impl Calls for ByValue {
+    fn add(table: Table, line: &[u8]) -> Answered {
+        table.add(line)
+    }
+
+    fn redeclare(table: Table, p: usize, code: usize) -> Answered {
+        table.redeclare(p, code)
+    }
+
+    fn take_back(table: Table) -> Answered {
+        table.take_back()
     }
 }
 
-pub(crate) fn redeclare(layer: Layer, table: Table, p: usize, code: usize) -> Answered
-    ensures { (change result ≡ redeclared (lists table) p code) × (result.table.schemes ≡ table.schemes) }
-{
-    match layer {
-        Layer::ByValue => table.redeclare(p, code),
-        Layer::Lent => owner::redeclare(table, p, code),
-    }
-}
+// Through the layer that lends the table.
+pub struct Lent;
 
-pub(crate) fn take_back(layer: Layer, table: Table) -> Answered
-    ensures { (change result ≡ taken_back (lists table)) × (result.table.schemes ≡ table.schemes) }
-{
-    match layer {
-        Layer::ByValue => table.take_back(),
-        Layer::Lent => owner::take_back(table),
+impl Calls for Lent {
+    fn add(table: Table, line: &[u8]) -> Answered {
+        owner::add(table, line)
+    }
+
+    fn redeclare(table: Table, p: usize, code: usize) -> Answered {
+        owner::redeclare(table, p, code)
+    }
+
+    fn take_back(table: Table) -> Answered {
+        owner::take_back(table)
     }
 }
 
@@ -57,15 +76,11 @@ pub(crate) fn restart(table: Table, lines: &[u8]) -> Answered
 fn part(lines: &[u8], file: &mut [u8]) -> usize
     ensures { Parted lines.now file.old file.new result }
 {
-    let mut i = 0;
-    while i < lines.len() {
-        if file.len() <= i {
-            return i;
-        }
+    let size = lines.len().min(file.len());
+    for i in 0..size {
         file[i] = unblanked(lines[i]);
-        i += 1;
     }
-    i
+    size
 }
 
 // A line feed for a blank.

@@ -1,10 +1,10 @@
 // Answers scripts of commands: one line on a table, and a whole script from a fresh table.
 #![tactic(auto)]
 
-ghost use Rattle.std.specs.Prelude.{[], ◌∷◌, ◌≡◌, ◌+◌, ◌≤◌, min, length};
+ghost use Rattle.std.specs.Prelude.{[], ◌∷◌, ◌≡◌, ◌≤◌, length};
 ghost use Rattle.model.specs.Number.{decimal};
 ghost use Rattle.model.specs.Report.{line};
-ghost use Rattle.conversation.specs.Script.{unknown, run_of, largest, Responds};
+ghost use Rattle.conversation.specs.Script.{unknown, run_of, Responds};
 ghost use Rattle.table.specs.Lists.{lists};
 ghost use Rattle.table.specs.Ready.{Ready};
 ghost use Rattle.report.specs.Writing.{Front};
@@ -15,6 +15,8 @@ use table::Table;
 
 mod calls;
 
+pub use calls::{ByValue, Calls, Lent};
+
 // The length of the longest answer to a line.
 pub const ANSWER: usize = inference::REPORT;
 
@@ -24,13 +26,6 @@ pub const LINE: usize = 730;
 // As much of a scheme file as decides whether it is refused (`opened_front`).
 const FILE: usize = 113;
 
-// How the calls that change the table are made.
-#[derive(Clone, Copy)]
-pub enum Layer {
-    ByValue,
-    Lent,
-}
-
 // After a line: the table for the next one, and the length of the answer, or of all answers so far.
 #[derive(Clone, Copy)]
 pub struct Turn {
@@ -39,25 +34,25 @@ pub struct Turn {
 }
 
 // Answers a line of any bytes; the answer stands at the front of the buffer.
-pub fn answer(layer: Layer, table: Table, line: &[u8], buffer: &mut [u8]) -> Turn
+pub fn answer<C: Calls>(table: Table, line: &[u8], buffer: &mut [u8]) -> Turn
     requires { Ready table × (6280 ≤ length buffer.old) }
     ensures { Replied (lists table) line.now buffer.new result }
 {
     match command::read(line) {
         Command::Add => {
-            let added = calls::add(layer, table, &line[4..]);
+            let added = C::add(table, &line[4..]);
             let after = added.table;
             let size = write_number(added.number, buffer);
             Turn { table: after, size }
         }
         Command::Redeclare(p, code) => {
-            let redeclared = calls::redeclare(layer, table, p as usize, code as usize);
+            let redeclared = C::redeclare(table, p as usize, code as usize);
             let after = redeclared.table;
             let size = write_number(redeclared.number, buffer);
             Turn { table: after, size }
         }
         Command::TakeBack => {
-            let taken = calls::take_back(layer, table);
+            let taken = C::take_back(table);
             let after = taken.table;
             let size = write_number(taken.number, buffer);
             Turn { table: after, size }
@@ -94,9 +89,7 @@ fn write_unknown(buffer: &mut [u8]) -> usize
     requires { 6280 ≤ length buffer.old }
     ensures { Front unknown buffer.new result }
 {
-    buffer[0] = b'?';
-    buffer[1] = b'\n';
-    2
+    report::write_text(buffer, 0, b"?\n")
 }
 
 // Writes the answer to a run, whose words follow: what the job that stands in the table came to. A word that is no number makes it no command.
@@ -105,10 +98,9 @@ fn write_run(table: Table, words: &[u8], buffer: &mut [u8]) -> usize
     ensures { Told (lists table) (run_of words.now) buffer.new result }
 {
     let mut arguments = [0u32; command::ARGUMENTS];
-    let count = command::arguments(words, &mut arguments);
-    if count == 0 {
+    let Some(count) = command::arguments(words, &mut arguments) else {
         return write_unknown(buffer);
-    }
+    };
     let budget = arguments[0];
     let ran = run::dry_run(table, &arguments[1..count], budget);
     let names = table.schemes.names;
@@ -116,20 +108,20 @@ fn write_run(table: Table, words: &[u8], buffer: &mut [u8]) -> usize
 }
 
 // Answers a whole script from a fresh table. Returns the length of all answers; with less room than that nothing is written.
-pub fn respond(layer: Layer, script: &[u8], output: &mut [u8]) -> usize
+pub fn respond<C: Calls>(script: &[u8], output: &mut [u8]) -> usize
     ensures { Responds script.now output.old result output.new }
 {
     // The calls are made twice: the first time only the length is wanted.
     let mut nothing = [0u8; 0];
-    let size = converse(layer, script, &mut nothing);
+    let size = converse::<C>(script, &mut nothing);
     if size <= output.len() {
-        return converse(layer, script, output);
+        return converse::<C>(script, output);
     }
     size
 }
 
 // Answers the lines of a script in turn and writes each answer where it fits. Returns the length of all answers.
-fn converse(layer: Layer, script: &[u8], output: &mut [u8]) -> usize
+fn converse<C: Calls>(script: &[u8], output: &mut [u8]) -> usize
     ensures { Tried script.now output.old output.new result }
 {
     let mut table = Table::fresh();
@@ -137,7 +129,7 @@ fn converse(layer: Layer, script: &[u8], output: &mut [u8]) -> usize
     let mut at: usize = 0;
     while from < script.len() {
         let to = lines::line_end(script, from);
-        let turn = answer_at(layer, table, &script[from..to], output, at);
+        let turn = answer_at::<C>(table, &script[from..to], output, at);
         table = turn.table;
         at = turn.size;
         from = to + 1;
@@ -146,18 +138,18 @@ fn converse(layer: Layer, script: &[u8], output: &mut [u8]) -> usize
 }
 
 // Answers a line, and writes the answer at a place where it fits. Returns the place after it.
-fn answer_at(layer: Layer, table: Table, line: &[u8], output: &mut [u8], at: usize) -> Turn
+fn answer_at<C: Calls>(table: Table, line: &[u8], output: &mut [u8], at: usize) -> Turn
     requires { Ready table }
     ensures { AnsweredAt (lists table) line.now at output.old output.new result }
 {
     let mut buffer = [0u8; ANSWER];
-    let turn = answer(layer, table, line, &mut buffer);
+    let turn = answer::<C>(table, line, &mut buffer);
     let size = turn.size;
     put(output, at, &buffer[..size]);
     let after = turn.table;
     Turn {
         table: after,
-        size: total(at, size),
+        size: at.saturating_add(size),
     }
 }
 
@@ -165,35 +157,20 @@ fn answer_at(layer: Layer, table: Table, line: &[u8], output: &mut [u8], at: usi
 fn put(output: &mut [u8], at: usize, bytes: &[u8])
     ensures { Put output.old at bytes.now output.new }
 {
-    let end = total(at, bytes.len());
+    let end = at.saturating_add(bytes.len());
     if end <= output.len() {
         report::write_text(output, at, bytes);
     }
-}
-
-// The sum, or the largest number where the sum is larger.
-fn total(a: usize, b: usize) -> usize
-    ensures { result ≡ min (a + b) largest }
-{
-    if usize::MAX - a < b {
-        return usize::MAX;
-    }
-    a + b
 }
 
 // Puts more bytes of a line behind those that are kept, as many as there is room for. Returns how many are kept then.
 pub fn keep(kept: &mut [u8], count: usize, part: &[u8]) -> usize
     ensures { Kept kept.old count part.now kept.new result }
 {
-    let mut at = count;
-    let mut i: usize = 0;
-    while i < part.len() {
-        if kept.len() <= at {
-            return at;
-        }
-        kept[at] = part[i];
-        at += 1;
-        i += 1;
+    if kept.len() <= count {
+        return count;
     }
-    at
+    let size = part.len().min(kept.len() - count);
+    kept[count..count + size].copy_from_slice(&part[..size]);
+    count + size
 }

@@ -1,7 +1,7 @@
 // The slots of a report, filled from the words and kinds of the nodes.
 #![tactic(auto)]
 
-ghost use Rattle.std.specs.Prelude.{◌≡◌, ℕ, ◌+◌, ◌<◌, ◌≤◌, eqb, length, get_or, set, take};
+ghost use Rattle.std.specs.Prelude.{◌≡◌, ℕ, ◌+◌, ◌<◌, ◌≤◌, eqb, length, get_or};
 ghost use Rattle.layout.specs.Layout.{row_type, row_qualifier, nodes};
 ghost use Rattle.model.specs.Machine.{Machine, param_in};
 ghost use Rattle.model.specs.Inference.{ruling};
@@ -17,7 +17,7 @@ use model::{PARAMS, Param, Program, TERMS, TYPES, TypeForm, TypeRow, VARIABLES};
 use report::Codes;
 use scheme::Standing;
 
-// The mark of a variable that the report does not list: no word has this code.
+// The mark of a variable that the report does not list: no word has this code. It is a byte as every code of `report::Codes` is.
 const UNLISTED: u8 = 9;
 
 // The shape's code of a kind.
@@ -41,14 +41,6 @@ fn shape_at(kinds: &[u16], node: usize) -> u8
     2
 }
 
-// Stores a code. It takes a slice since an array that is lent as one shows the caller's proof its length.
-fn put(list: &mut [u8], at: usize, code: u8)
-    requires { at < length list.old }
-    ensures { list.new ≡ set list.old at code }
-{
-    list[at] = code;
-}
-
 // Fills the variable that a code names, if it names one: the codes from `first` on are the variables'.
 fn fill_variable(code: u8, first: usize, words: &[u8; NODES], variables: &mut [u8; VARIABLES])
     requires { first ≤ 9 }
@@ -56,7 +48,7 @@ fn fill_variable(code: u8, first: usize, words: &[u8; NODES], variables: &mut [u
 {
     match scheme::stands_for(first as u8, code as u64) {
         Standing::Word(_) => {}
-        Standing::Variable(k) => put(variables, k as usize, words[k as usize + first]),
+        Standing::Variable(k) => variables[k as usize] = words[k as usize + first],
         Standing::Nothing => {}
     }
 }
@@ -81,64 +73,50 @@ fn fill_variables_of_form(
     }
 }
 
-// Fills the variables of the first type rows.
+// Fills the variables of the type rows.
 fn fill_variables_of_types(
-    types: [TypeRow; TYPES],
-    count: usize,
+    types: &[TypeRow],
     first: usize,
     words: &[u8; NODES],
     variables: &mut [u8; VARIABLES],
 )
-    requires { (count ≤ 64) × (first ≤ 9) }
-    ensures { VariablesFilled first (in_types (take count types)) words.now variables.old variables.new }
+    requires { first ≤ 9 }
+    ensures { VariablesFilled first (in_types types.now) words.now variables.old variables.new }
 {
-    let mut i = 0;
-    while i < count {
-        let row = types[i];
-        let form = row.form;
-        fill_variables_of_form(form, first, words, variables);
-        i += 1;
+    for row in types {
+        fill_variables_of_form(row.form, first, words, variables);
     }
 }
 
-// Fills the variables that are the present qualifiers of the first parameters.
+// Fills the variables that are the present qualifiers of the parameters.
 fn fill_variables_of_params(
-    params: [Param; PARAMS],
-    count: usize,
+    params: &[Param],
     first: usize,
     words: &[u8; NODES],
     variables: &mut [u8; VARIABLES],
 )
-    requires { (count ≤ 64) × (first ≤ 9) }
-    ensures { VariablesFilled first (in_params (take count params)) words.now variables.old variables.new }
+    requires { first ≤ 9 }
+    ensures { VariablesFilled first (in_params params.now) words.now variables.old variables.new }
 {
-    let mut i = 0;
-    while i < count {
-        let param = params[i];
+    for param in params {
         fill_variable(param.qualifier, first, words, variables);
-        i += 1;
     }
 }
 
-// Fills the slots of the first parameters.
+// Fills the slots of the parameters.
 fn fill_params(
-    params: [Param; PARAMS],
-    count: usize,
+    params: &[Param],
     words: &[u8; NODES],
     kinds: &[u16; NODES],
     paramwords: &mut [u8; PARAMS],
     paramshapes: &mut [u8; PARAMS],
 )
-    requires { count ≤ 64 }
-    ensures { SlotsFilled count (λ p. (param_in params p).qualifier) (λ p. (param_in params p).typerow) words.now kinds.now paramwords.new paramshapes.new }
+    requires { length params.now ≤ 64 }
+    ensures { SlotsFilled (length params.now) (λ p. (param_in params.now p).qualifier) (λ p. (param_in params.now p).typerow) words.now kinds.now paramwords.new paramshapes.new }
 {
-    let mut p = 0;
-    while p < count {
-        let param = params[p];
-        let qualifier = param.qualifier as usize;
-        put(paramwords, p, words[qualifier]);
-        put(paramshapes, p, shape_at(kinds, param.typerow as usize));
-        p += 1;
+    for (p, param) in params.iter().enumerate() {
+        paramwords[p] = words[param.qualifier as usize];
+        paramshapes[p] = shape_at(kinds, param.typerow as usize);
     }
 }
 
@@ -153,11 +131,9 @@ fn fill_rows(
     requires { count ≤ 256 }
     ensures { SlotsFilled count (λ i. row_qualifier i) (λ i. row_type i) words.now kinds.now rowwords.new rowshapes.new }
 {
-    let mut i = 0;
-    while i < count {
-        put(rowwords, i, words[layout::row_qualifier(i)]);
-        put(rowshapes, i, shape_at(kinds, layout::row_type(i)));
-        i += 1;
+    for i in 0..count {
+        rowwords[i] = words[layout::row_qualifier(i)];
+        rowshapes[i] = shape_at(kinds, layout::row_type(i));
     }
 }
 
@@ -167,35 +143,30 @@ pub fn fill(program: Program, first: usize, words: &[u8; NODES], kinds: &[u16; N
     requires fact_2 { ((x : ℕ) → x < nodes → get_or words.now x 0 < first) }
     ensures { (m : Machine) → (ruling m).words ≡ first → Holds m program → WellFormed m → Filled m (λ x. get_or words.now x 0) (λ x. get_or kinds.now x 0) result }
 {
-    let types = program.types;
-    let params = program.params;
-    let mut variables = [UNLISTED; VARIABLES];
-    let mut paramwords = [0; PARAMS];
-    let mut paramshapes = [0; PARAMS];
-    let mut rowwords = [0; TERMS];
-    let mut rowshapes = [0; TERMS];
-    fill_variables_of_types(types, program.typecount, first, words, &mut variables);
-    fill_variables_of_params(params, program.paramcount, first, words, &mut variables);
+    let types = &program.types[..program.typecount];
+    let params = &program.params[..program.paramcount];
+    let mut codes = Codes {
+        variables: [UNLISTED; VARIABLES],
+        paramwords: [0; PARAMS],
+        paramshapes: [0; PARAMS],
+        rowwords: [0; TERMS],
+        rowshapes: [0; TERMS],
+    };
+    fill_variables_of_types(types, first, words, &mut codes.variables);
+    fill_variables_of_params(params, first, words, &mut codes.variables);
     fill_params(
         params,
-        program.paramcount,
         words,
         kinds,
-        &mut paramwords,
-        &mut paramshapes,
+        &mut codes.paramwords,
+        &mut codes.paramshapes,
     );
     fill_rows(
         program.termcount,
         words,
         kinds,
-        &mut rowwords,
-        &mut rowshapes,
+        &mut codes.rowwords,
+        &mut codes.rowshapes,
     );
-    Codes {
-        variables,
-        paramwords,
-        paramshapes,
-        rowwords,
-        rowshapes,
-    }
+    codes
 }

@@ -10,66 +10,53 @@ use std::rt::Clock;
 use std::time::Duration;
 use std::{io, thread};
 
-// What one read came to.
-#[derive(Clone, Copy)]
-pub enum Outcome {
-    Bytes(usize),
-    End,
-    Failed(Error),
-}
-
-// What reading up to the end of the input came to.
-#[derive(Clone, Copy)]
-pub enum Whole {
-    Bytes(usize),
-    Failed(Error),
-}
-
-// A proved loop has to end, and nothing says that a stream becomes ready. So calls are counted down, from a number that no run uses up.
+// A proved loop has to end, and nothing says that a stream becomes ready. So calls are counted, up to a number that no run reaches.
 const CALLS: u64 = u64::MAX;
 
-// One read: how many bytes it put at the start of the buffer, at least one. An empty buffer is never the end: it gets none, and nothing is read.
-pub fn read<R: Read, C: Clock>(stream: &mut R, clock: &C, buffer: &mut [u8]) -> Outcome
+// One read: how many bytes it put at the start of the buffer, at least one, or none at the end of the input. An empty buffer is never the end: it
+// gets no bytes, and nothing is read.
+pub fn read<R: Read, C: Clock>(
+    stream: &mut R,
+    clock: &C,
+    buffer: &mut [u8],
+) -> io::Result<Option<usize>>
     ensures { ReadInto buffer.new result }
 {
-    if buffer.len() == 0 {
-        return Outcome::Bytes(0);
+    if buffer.is_empty() {
+        return Ok(Some(0));
     }
     let mut failure = Error::from(ErrorKind::Interrupted);
-    let mut calls = CALLS;
-    while calls > 0 {
+    for _ in 0..CALLS {
         match stream.read(buffer) {
-            Ok(count) => {
-                if count > 0 {
-                    return Outcome::Bytes(count);
-                }
-                return Outcome::End;
-            }
+            Ok(0) => return Ok(None),
+            Ok(count) => return Ok(Some(count)),
             Err(error) => {
                 if !again(clock, error) {
-                    return Outcome::Failed(error);
+                    return Err(error);
                 }
                 failure = error;
             }
         }
-        calls -= 1;
     }
-    Outcome::Failed(failure)
+    Err(failure)
 }
 
 // Reads until the buffer is full or the input ends: how many bytes stand at its start. A failure is one even after bytes came.
-pub fn read_whole<R: Read, C: Clock>(stream: &mut R, clock: &C, buffer: &mut [u8]) -> Whole
+pub fn read_whole<R: Read, C: Clock>(
+    stream: &mut R,
+    clock: &C,
+    buffer: &mut [u8],
+) -> io::Result<usize>
     ensures { FilledFrom buffer.new result }
 {
     let mut done = 0;
     while done < buffer.len() {
-        match read(stream, clock, &mut buffer[done..]) {
-            Outcome::Bytes(count) => done += count,
-            Outcome::End => return Whole::Bytes(done),
-            Outcome::Failed(error) => return Whole::Failed(error),
+        match read(stream, clock, &mut buffer[done..])? {
+            Some(count) => done += count,
+            None => return Ok(done),
         }
     }
-    Whole::Bytes(done)
+    Ok(done)
 }
 
 // Writes all of the bytes, or says why that did not go well. Then some of them may have been written.
@@ -90,8 +77,7 @@ fn write_some<W: Write, C: Clock>(stream: &mut W, clock: &C, bytes: &[u8]) -> io
     ensures { IfOk result (λ taken. taken ≤ length bytes.now) }
 {
     let mut failure = Error::from(ErrorKind::Interrupted);
-    let mut calls = CALLS;
-    while calls > 0 {
+    for _ in 0..CALLS {
         match stream.write(bytes) {
             Ok(taken) => return Ok(taken),
             Err(error) => {
@@ -101,7 +87,6 @@ fn write_some<W: Write, C: Clock>(stream: &mut W, clock: &C, bytes: &[u8]) -> io
                 failure = error;
             }
         }
-        calls -= 1;
     }
     Err(failure)
 }

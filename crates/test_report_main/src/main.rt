@@ -13,27 +13,15 @@ const NAMES: [u8; 21] = *b"FHE,OP,DET,MH,AH,RAND";
 
 // The bytes of a part of the buffer go to standard output.
 fn print(rt: &HostRuntime, buffer: &[u8], from: usize, to: usize) -> io::Result<()> {
-    if from <= to {
-        if to <= buffer.len() {
-            return rt.write_all(&buffer[from..to]);
-        }
+    match buffer.get(from..to) {
+        Some(part) => rt.write_all(part),
+        None => Ok(()),
     }
-    Ok(())
 }
 
 // How many bytes from `from` on are `byte`.
-fn count(buffer: &[u8], byte: u8, from: usize) -> u64 {
-    let mut found = 0;
-    let mut i = from;
-    while i < buffer.len() {
-        if buffer[i] == byte {
-            found += 1;
-            i += 1;
-        } else {
-            i += 1;
-        }
-    }
-    found
+fn count(buffer: &[u8], byte: u8, from: usize) -> usize {
+    buffer.iter().skip(from).filter(|b| **b == byte).count()
 }
 
 // Prints the report's length, its number of lines, and how many bytes beyond it are still as the buffer was filled.

@@ -3,11 +3,11 @@
 
 ghost use Rattle.conversation.specs.Script.{Responds};
 
-use script::Layer;
+use script::Lent;
 
 #[unsafe(no_mangle)]
 pub extern "C" fn session_lent(script: &[u8], output: &mut [u8]) -> usize
     ensures { Responds script.now output.old result output.new }
 {
-    script::respond(Layer::Lent, script, output)
+    script::respond::<Lent>(script, output)
 }

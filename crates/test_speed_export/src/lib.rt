@@ -32,10 +32,8 @@ fn infer_times(table: Table, times: u32)
     requires { Ready table }
 {
     let mut buffer = [0u8; 6280];
-    let mut i = 0;
-    while i < times {
-        inference::infer(table, &mut buffer);
-        i += 1;
+    for _ in 0..times {
+        let _ = inference::infer(table, &mut buffer);
     }
 }
 
@@ -45,9 +43,7 @@ fn solve_times(table: Table, times: u32)
     if table.term_rows() == 0 {
         return;
     }
-    let mut i = 0;
-    while i < times {
-        inference::solve(table);
-        i += 1;
+    for _ in 0..times {
+        let _ = inference::solve(table);
     }
 }

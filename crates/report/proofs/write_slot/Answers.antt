@@ -1,5 +1,4 @@
 -- Four fields, each with the byte that ends it.
-use borrow.Author.Rules.{rules}
 use mathlib.Core.List.{[], ◌∷◌}
 use Rattle.report.specs.Writing.{slot_text}
 use Rattle.report.proofs.Fields.{last_room, last_wrote, first_room, rest_room, rest_wrote}
@@ -7,28 +6,25 @@ use Rattle.report.proofs.write_slot.Goals as goal
 
 pub write_field-number-requires : goal.write_field-number-requires
 unfolding slot_text
-write_field-number-requires c = first_room (_ ∷ []) _ _ c.requires.1
+write_field-number-requires c = first_room (_ ∷ []) _ _ c.requires
 
 pub write_number-word-requires : goal.write_number-word-requires
 unfolding slot_text
-write_number-word-requires c = first_room _ _ _ (rest_room (_ ∷ []) _ _ c.requires.1 c.write_field-number.ensures)
+write_number-word-requires c = first_room _ _ _ (rest_room (_ ∷ []) _ _ c.requires c.write_field-number.ensures)
 
 pub write_qualifier-last-requires : goal.write_qualifier-last-requires
 unfolding slot_text
-write_qualifier-last-requires c = (
-  search rules,
-  first_room _ _ _
-      (rest_room _ _ _
-      (rest_room (_ ∷ []) _ _ c.requires.1 c.write_field-number.ensures)
-      c.write_number-word.ensures),
-)
+write_qualifier-last-requires c = first_room _ _ _
+    (rest_room _ _ _
+    (rest_room (_ ∷ []) _ _ c.requires c.write_field-number.ensures)
+    c.write_number-word.ensures)
 
 pub write_shape-requires : goal.write_shape-requires
 unfolding slot_text
 write_shape-requires c = last_room _ _
     (rest_room _ _ _
     (rest_room _ _ _
-    (rest_room (_ ∷ []) _ _ c.requires.1 c.write_field-number.ensures)
+    (rest_room (_ ∷ []) _ _ c.requires c.write_field-number.ensures)
     c.write_number-word.ensures)
     c.write_qualifier-last.ensures)
 

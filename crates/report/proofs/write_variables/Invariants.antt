@@ -1,12 +1,9 @@
 -- The loop has left to write the lines of the variables from k on.
-use Prim.Native.Nat.{◌-◌, ◌≤◌}
+use Prim.Native.Nat.{◌-◌}
 use Rattle.model.specs.Report.{lines}
 use Rattle.report.specs.Writing.{words_in, variable_at}
 use Rattle.report.proofs.Writing.{Left}
 use Rattle.report.proofs.write_variables.Given as goal
 
 abbrev pub invariant-loop-k : goal.invariant-loop-k
-invariant-loop-k l = (l.k ≤ 64) × Left l.buffer l.next (lines (variable_at (words_in l.words) l.variables) l.k (64 - l.k)) l.initial.buffer l.at (lines (variable_at (words_in l.words) l.variables) 0 64)
-
-abbrev pub decreases-loop-k : goal.decreases-loop-k
-decreases-loop-k l = 64 - l.k
+invariant-loop-k l = Left l.buffer l.next (lines (variable_at (words_in l.words.bytes) l.variables) l.k (64 - l.k)) l.initial.buffer l.at (lines (variable_at (words_in l.words.bytes) l.variables) 0 64)

@@ -6,7 +6,7 @@ use borrow.Author.Rules.{rules}
 use Rattle.script.proofs.answer_at.Goals as goal
 
 pub slice_bounds-put-end : goal.slice_bounds-put-end
-slice_bounds-put-end c = simp length-take (omega (arith, c.answer-turn.ensures.fits))
+slice_bounds-put-end g c = simp length-take (omega (arith, c.answer-turn.ensures.fits))
 
 pub returns : goal.returns
-returns c = search (turns, rules)
+returns g c = search (turns, rules)

@@ -1,16 +1,9 @@
--- Each byte is put behind those that are kept, until there is no room or no byte is left.
-use borrow.Author.Rules.{rules}
-use Rattle.script.proofs.Keeping.{keep_first, keep_full, keep_byte, keep_end}
+-- As many bytes as there is room for are put behind those that are kept.
+use Rattle.script.proofs.Keeping.{keep_none, keep_some}
 use Rattle.script.proofs.keep.Goals as goal
 
-pub loop-i-init : goal.loop-i-init
-loop-i-init c = keep_first _ _ _
-
-pub returns-then-kept-at : goal.returns-then-kept-at
-returns-then-kept-at c = search (keep_full, rules)
-
-pub loop-i-preserved : goal.loop-i-preserved
-loop-i-preserved c = search (keep_byte, rules)
+pub returns-then-kept-count : goal.returns-then-kept-count
+returns-then-kept-count c = keep_none _ _ _ c.if-kept-count.true
 
 pub returns : goal.returns
-returns c = search (keep_end, rules)
+returns c = keep_some _ _ _ _ _ c.if-kept-count.false c.min-size.ensures c.copy_from_slice.ensures.after

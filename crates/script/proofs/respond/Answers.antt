@@ -4,7 +4,7 @@ use borrow.Author.Rules.{rules}
 use Rattle.script.proofs.respond.Goals as goal
 
 pub returns-then-size-output : goal.returns-then-size-output
-returns-then-size-output c = search (respond_written, rules)
+returns-then-size-output g c = search (respond_written, rules)
 
 pub returns : goal.returns
-returns c = search (respond_short, rules)
+returns g c = search (respond_short, rules)

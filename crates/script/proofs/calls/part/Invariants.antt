@@ -1,11 +1,8 @@
--- Byte by byte, until there is no room or no byte is left.
-use Prim.Native.Nat.{◌-◌}
-use lib.ListN.{length}
-use Rattle.script.proofs.Restarting.{Parting}
+-- The first i bytes are copied.
+use mathlib.Core.Path.{◌≡◌}
+use lib.ListN.{take}
+use Rattle.conversation.specs.Script.{file_in}
 use Rattle.script.proofs.calls.part.Given as goal
 
 abbrev pub invariant-loop-i : goal.invariant-loop-i
-invariant-loop-i l = Parting l.lines l.initial.file l.file l.i
-
-abbrev pub decreases-loop-i : goal.decreases-loop-i
-decreases-loop-i l = length l.lines - l.i
+invariant-loop-i l = take l.i l.file ≡ take l.i (file_in l.lines)
