@@ -9,7 +9,7 @@ use lib.Dec.{eqb, eqb-suc-suc, eqb-zero-suc, eqb-suc-zero}
 use lib.ListN.{length, get_or, drop, length-drop}
 use lib.Seq.{get_or-drop}
 use borrow.Author.Tests.{eq-eqb, ne_eqb, eqb-true, eqb-false, not-true}
-use Rattle.std.specs.Prelude.{Option, Some, None}
+use Rattle.std.specs.Prelude.{Option, Some, None, Result, Ok, Err}
 use Rattle.scheme.proofs.Every.{and_left, and_right}
 use Rattle.model.specs.Lists.{all_of, bytes}
 use Rattle.model.specs.Number.{number_of}
@@ -51,12 +51,12 @@ module _ (names : List (List ℕ)) (form : Values → Line) (before : ℕ) where
       later j = let e : k + suc j ≡ k + 1 + j = omega arith in rw e at (at (suc j))
 
       by : (x : Option ℕ) (t : Bool) → ((n : ℕ) → made form (values_from names (put kind k n v) (k + 1) kinds rest) ≡ choose t (each_given fs (put kind k n v) (k + 1) kinds) NoForm)
-          → made form (onward x λ n. values_from names (put kind k n v) (k + 1) kinds rest) ≡ choose t (given x λ n. each_given fs (put kind k n v) (k + 1) kinds) NoForm
+          → made form (onward x v λ n. values_from names (put kind k n v) (k + 1) kinds rest) ≡ choose t (given x λ n. each_given fs (put kind k n v) (k + 1) kinds) NoForm
       by (Some n) t each = each n
       by None true each = refl
       by None false each = refl
 
-  made_rest : (fs : List (List ℕ)) (kinds : List ℕ) (v : Option Values) → no_floor kinds ≡ true → v ≡ values_of names kinds (drop before fs)
+  made_rest : (fs : List (List ℕ)) (kinds : List ℕ) (v : Result Values Values) → no_floor kinds ≡ true → v ≡ values_of names kinds (drop before fs)
       → made form v ≡ choose (eqb (length (drop before fs)) (length kinds)) (each_given fs no_values 0 kinds) NoForm
   unfolding values_of
   made_rest fs kinds v all e = ap (made form) e ∙ made_each fs no_values 0 kinds (drop before fs) all (λ j. sym (simp zero-add (get_or-drop before fs j [])))
@@ -74,7 +74,7 @@ begun_count s i before rest b n =
     let long : length (fields s) ≡ before + length rest = (let enough : before ≤ length (fields s) = b.enough in omega (arith, simp length-drop at (ap length b.left))) in
     rw long (count_from before (length rest) n)
 
-module _ (names : List (List ℕ)) (s : List ℕ) (i : ℕ) (v : Option Values) (r : Line) where
+module _ (names : List (List ℕ)) (s : List ℕ) (i : ℕ) (v : Result Values Values) (r : Line) where
   -- Each form follows from this by computing.
   pub form_line : (before : ℕ) (rest : List (List ℕ)) (form : ℕ → Values → Line) (kinds : List ℕ) → no_floor kinds ≡ true → Begun s i before rest → r ≡ made (form i) v → v ≡ values_of names kinds rest
       → r ≡ exactly (before + length kinds) s (given (number s 1) λ i. each_given names (form i) before (fields s) no_values 0 kinds)
@@ -148,19 +148,19 @@ module _ (names : List (List ℕ)) (p : ℕ) where
   made_param [] = no_floor_lem (qualifier_of names []) (number_of 65535 [])
   made_param (a ∷ []) = by (qualifier_of names a) ∙ no_floor_lem (qualifier_of names a) (number_of 65535 [])
     where
-      by : (q : Option ℕ) → made (param_form p) (onward q λ n. None) ≡ NoForm
+      by : (q : Option ℕ) → made (param_form p) (onward q no_values λ n. Err (put 113 0 n no_values)) ≡ NoForm
       by (Some q) = refl
       by None = refl
   made_param (a ∷ b ∷ []) = by (qualifier_of names a) (number_of 65535 b)
     where
-      by : (q t : Option ℕ) → made (param_form p) (onward q λ q. onward t λ t. Some (put 110 1 t (put 113 0 q no_values))) ≡ param_by q t (Some 0)
+      by : (q t : Option ℕ) → made (param_form p) (onward q no_values λ q. onward t (put 113 0 q no_values) λ t. Ok (put 110 1 t (put 113 0 q no_values))) ≡ param_by q t (Some 0)
       by (Some q) (Some t) = refl
       by (Some q) None = refl
       by None t = refl
   made_param (a ∷ b ∷ c ∷ rest) = by (qualifier_of names a) (number_of 65535 b) (word_of names c) rest
     where
-      read : Option ℕ → Option ℕ → Option ℕ → List (List ℕ) → Option Values
-      read q t f rest = onward q λ q. onward t λ t. onward f λ f. values_from names (put 102 2 f (put 110 1 t (put 113 0 q no_values))) 3 [] rest
+      read : Option ℕ → Option ℕ → Option ℕ → List (List ℕ) → Result Values Values
+      read q t f rest = onward q no_values λ q. onward t (put 113 0 q no_values) λ t. onward f (put 110 1 t (put 113 0 q no_values)) λ f. values_from names (put 102 2 f (put 110 1 t (put 113 0 q no_values))) 3 [] rest
 
       by : (q t f : Option ℕ) (rest : List (List ℕ)) → made (param_form p) (read q t f rest) ≡ param_by q t (cond (eqb (length (a ∷ b ∷ c ∷ rest)) 2) (Some 0) (cond (eqb (length (a ∷ b ∷ c ∷ rest)) 3) f None))
       by (Some q) (Some t) (Some f) [] = refl
@@ -178,5 +178,5 @@ module _ (names : List (List ℕ)) (p : ℕ) where
     unfolding param_line floor given param_by floor_at
     param_is = simp (b.own, at_rest 0, at_rest 1, at_rest 2, begun_count s p 2 rest b 2, begun_count s p 2 rest b 3)
 
-    pub reads_param : (v : Option Values) (r : Line) → v ≡ values_of names (bytes "qnf") rest → r ≡ made (param_form p) v → r ≡ param_line names s
+    pub reads_param : (v : Result Values Values) (r : Line) → v ≡ values_of names (bytes "qnf") rest → r ≡ made (param_form p) v → r ≡ param_line names s
     reads_param v r e f = f ∙ ap (made (param_form p)) e ∙ made_param rest ∙ sym param_is

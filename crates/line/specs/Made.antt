@@ -1,16 +1,16 @@
 -- The line that an own number and the values of a form make.
 -- Document 01, "Lines and the table".
-use Rattle.std.specs.Prelude.{ℕ, get_or, Option, Some, None}
+use Rattle.std.specs.Prelude.{ℕ, get_or, Result, Ok, Err}
 use Rattle.model.specs.declared.TypeForm.TheVariants.{Int, Any, Arrow}
 use Rattle.model.specs.declared.Term.TheVariants.{Lam, App, Op, Var, Num, Enc}
 use Rattle.model.specs.declared.Line.{Line}
 use Rattle.model.specs.declared.Line.TheVariants.{TypeLine, ParamLine, TermLine, NoForm}
 use Rattle.tokens.specs.declared.values.Values.{Values}
 
--- Where there are no values, the line has none of the forms.
-abbrev pub made : (Values → Line) → Option Values → Line
-made form (Some v) = form v
-made form None = NoForm
+-- Where the values are not all there, the line has none of the forms.
+abbrev pub made : (Values → Line) → Result Values Values → Line
+made form (Ok v) = form v
+made form (Err v) = NoForm
 
 abbrev number_at : Values → ℕ → ℕ
 number_at v k = get_or v.number k 0

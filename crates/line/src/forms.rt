@@ -1,4 +1,4 @@
-// The ten forms of a line, each from the line's own number and the values of its form's fields, where they are there.
+// The ten forms of a line, each from the line's own number and the values of its form's fields, where they are all there.
 ghost use Rattle.std.specs.Prelude.{◌≡◌};
 ghost use Rattle.line.specs.Made.{made, int_form, any_form, arrow_form, param_form, lam_form, app_form, op_form, var_form, num_form, enc_form};
 
@@ -6,21 +6,21 @@ use model::{Line, Param, Term, TypeForm};
 use tokens::values::Values;
 
 // `T,i,INT`
-pub(crate) fn int(i: u16, v: Option<Values>) -> Line
+pub(crate) fn int(i: u16, v: Result<Values, Values>) -> Line
     ensures { result ≡ made (int_form i) v }
 {
     v.map_or(Line::NoForm, |_| Line::TypeLine(i, TypeForm::Int))
 }
 
 // `T,i,ANY`
-pub(crate) fn any(i: u16, v: Option<Values>) -> Line
+pub(crate) fn any(i: u16, v: Result<Values, Values>) -> Line
     ensures { result ≡ made (any_form i) v }
 {
     v.map_or(Line::NoForm, |_| Line::TypeLine(i, TypeForm::Any))
 }
 
 // `T,i,ARROW,q,t,q,t`
-pub(crate) fn arrow(i: u16, v: Option<Values>) -> Line
+pub(crate) fn arrow(i: u16, v: Result<Values, Values>) -> Line
     ensures { result ≡ made (arrow_form i) v }
 {
     v.map_or(Line::NoForm, |v| {
@@ -30,7 +30,7 @@ pub(crate) fn arrow(i: u16, v: Option<Values>) -> Line
 }
 
 // `P,p,q,t` or `P,p,q,t,floor`: where no floor stands its code is 0, for PLAIN
-pub(crate) fn param(p: u16, v: Option<Values>) -> Line
+pub(crate) fn param(p: u16, v: Result<Values, Values>) -> Line
     ensures { result ≡ made (param_form p) v }
 {
     v.map_or(Line::NoForm, |v| {
@@ -44,7 +44,7 @@ pub(crate) fn param(p: u16, v: Option<Values>) -> Line
 }
 
 // `E,i,LAM,p,b`
-pub(crate) fn lam(i: u16, v: Option<Values>) -> Line
+pub(crate) fn lam(i: u16, v: Result<Values, Values>) -> Line
     ensures { result ≡ made (lam_form i) v }
 {
     v.map_or(
@@ -54,7 +54,7 @@ pub(crate) fn lam(i: u16, v: Option<Values>) -> Line
 }
 
 // `E,i,APP,f,a`
-pub(crate) fn app(i: u16, v: Option<Values>) -> Line
+pub(crate) fn app(i: u16, v: Result<Values, Values>) -> Line
     ensures { result ≡ made (app_form i) v }
 {
     v.map_or(
@@ -64,7 +64,7 @@ pub(crate) fn app(i: u16, v: Option<Values>) -> Line
 }
 
 // `E,i,OP,o,l,r`
-pub(crate) fn op(i: u16, v: Option<Values>) -> Line
+pub(crate) fn op(i: u16, v: Result<Values, Values>) -> Line
     ensures { result ≡ made (op_form i) v }
 {
     v.map_or(
@@ -74,21 +74,21 @@ pub(crate) fn op(i: u16, v: Option<Values>) -> Line
 }
 
 // `E,i,VAR,p`
-pub(crate) fn var(i: u16, v: Option<Values>) -> Line
+pub(crate) fn var(i: u16, v: Result<Values, Values>) -> Line
     ensures { result ≡ made (var_form i) v }
 {
     v.map_or(Line::NoForm, |v| Line::TermLine(i, Term::Var(v.number[0])))
 }
 
 // `E,i,NUM,n`
-pub(crate) fn num(i: u16, v: Option<Values>) -> Line
+pub(crate) fn num(i: u16, v: Result<Values, Values>) -> Line
     ensures { result ≡ made (num_form i) v }
 {
     v.map_or(Line::NoForm, |v| Line::TermLine(i, Term::Num(v.literal)))
 }
 
 // `E,i,ENC,s,n`
-pub(crate) fn enc(i: u16, v: Option<Values>) -> Line
+pub(crate) fn enc(i: u16, v: Result<Values, Values>) -> Line
     ensures { result ≡ made (enc_form i) v }
 {
     v.map_or(

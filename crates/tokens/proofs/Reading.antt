@@ -9,14 +9,13 @@ use lib.Dec.{ltb}
 use lib.ListN.{length, get_or, take, drop, set, length-set, drop_of_length-le}
 use lib.Seq.{drop-cons}
 use borrow.Author.Tests.{ne_eqb, ltb-true, ltb-false}
-use Rattle.std.specs.Prelude.{Option, Some, None}
-use Rattle.std.specs.Bool.{then_some}
+use Rattle.std.specs.Prelude.{Option, Some, None, Err}
 use Rattle.model.specs.Lists.{length_before}
 use Rattle.model.specs.Word.{operation_of}
 use Rattle.model.specs.Line.{fields}
 use Rattle.numbers.specs.NumberTo.{with_end, bytes_to, number_to}
 use Rattle.tokens.specs.Part.{fields_from, FieldTo}
-use Rattle.tokens.specs.Form.{most_fields, is_floor, word_in, value_of, value_at, no_values, put, onward, values_from, values_of}
+use Rattle.tokens.specs.Form.{most_fields, is_floor, word_in, value_of, value_at, no_values, put, told, onward, values_from, values_of}
 use Rattle.tokens.specs.declared.values.Values.{Values}
 use Rattle.tokens.proofs.Bounds.{value_read, value_missing}
 use Rattle.tokens.proofs.Parting.{some_field, from_within, from_past, field_first}
@@ -56,16 +55,16 @@ pub read_first : (names : List (List ℕ)) (kinds s : List ℕ) (start : ℕ) (v
 unfolding values_of
 read_first names kinds s start v e = rw e (record { numbers = refl; codes = refl; rest = refl })
 
-fields_left : (names : List (List ℕ)) (v : Values) (k : ℕ) (fs : List (List ℕ)) → 0 < length fs → None ≡ values_from names v k [] fs
+fields_left : (names : List (List ℕ)) (v : Values) (k : ℕ) (fs : List (List ℕ)) → 0 < length fs → Err v ≡ values_from names v k [] fs
 fields_left names v k [] h = absurd (omega arith)
 fields_left names v k (f ∷ fs) h = refl
 
 module _ (names : List (List ℕ)) (kinds s : List ℕ) (start : ℕ) (v : Values) (k from : ℕ) (r : Reading names kinds s start v k from) where
   -- No kind is left.
-  pub read_end : length kinds ≤ k → then_some (ltb (length s) from) v ≡ values_of names kinds (fields_from s start)
+  pub read_end : length kinds ≤ k → told (ltb (length s) from) v ≡ values_of names kinds (fields_from s start)
   read_end h = by (ltb (length s) from) refl ∙ simp (← drop_of_length-le kinds h) (sym r.rest)
     where
-      by : (t : Bool) → ltb (length s) from ≡ t → then_some t v ≡ values_from names v k [] (fields_from s from)
+      by : (t : Bool) → ltb (length s) from ≡ t → told t v ≡ values_from names v k [] (fields_from s from)
       by true e = simp (from_past s from (ltb-true (length s) from e))
       by false e =
           let within : from ≤ length s = ltb-false (length s) from e in
@@ -74,11 +73,11 @@ module _ (names : List (List ℕ)) (kinds s : List ℕ) (start : ℕ) (v : Value
   -- The next field, by its kind.
   module _ (h : k < length kinds) where
     -- Only a floor may be left out.
-    pub read_short : length s < from → then_some (is_floor (get_or kinds k 0)) v ≡ values_of names kinds (fields_from s start)
+    pub read_short : length s < from → told (is_floor (get_or kinds k 0)) v ≡ values_of names kinds (fields_from s start)
     read_short past = sym (r.rest ∙ simp (drop-cons kinds k 0 h, from_past s from past))
 
     module _ (within : from ≤ length s) (x : Option (ℕ × ℕ)) (at : x ≡ value_at names (get_or kinds k 0) s from) where
-      pub read_missing : x ≡ None → None ≡ values_of names kinds (fields_from s start)
+      pub read_missing : x ≡ None → Err v ≡ values_of names kinds (fields_from s start)
       unfolding onward
       read_missing none = sym (r.rest ∙ simp (drop-cons kinds k 0 h, field_first s from within, value_missing names (get_or kinds k 0) s from x at none))
 

@@ -1,7 +1,6 @@
 -- The values that stand in a form's fields, by their kinds: one letter for each field.
 -- Document 01, "Lines and the table"; document 02, a) and d).
-use Rattle.std.specs.Prelude.{ℕ, ◌+◌, Bool, cond, List, [], ◌∷◌, eqb, set, replicate, Option, Some, None}
-use Rattle.std.specs.Bool.{then_some}
+use Rattle.std.specs.Prelude.{ℕ, ◌+◌, Bool, true, false, cond, List, [], ◌∷◌, eqb, set, replicate, Option, Some, None, Result, Ok, Err}
 use Rattle.model.specs.Number.{number_of}
 use Rattle.model.specs.Word.{word_of, qualifier_of, scheme_of, operation_of}
 use Rattle.numbers.specs.NumberTo.{with_end, next_place, bytes_to}
@@ -52,17 +51,22 @@ put kind k n v =
       literal = cond (is_number kind) v.literal (cond (is_literal kind) n v.literal);
     }
 
--- A field's value goes into the rest; without one there are no values.
-unfoldable pub onward : Option ℕ → (ℕ → Option Values) → Option Values
-onward (Some n) rest = rest n
-onward None rest = None
+-- Whether all values are there; where they are not, those that were read are told.
+abbrev pub told : Bool → Values → Result Values Values
+told true v = Ok v
+told false v = Err v
 
--- The values with those of the fields from k on. They are there where each field has one of its kind, and there are as many fields as kinds; or one fewer, where that is a floor.
-abbrev pub values_from : List (List ℕ) → Values → ℕ → List ℕ → List (List ℕ) → Option Values
-values_from names v k [] [] = Some v
-values_from names v k [] (f ∷ fs) = None
-values_from names v k (kind ∷ kinds) [] = then_some (is_floor kind) v
-values_from names v k (kind ∷ kinds) (f ∷ fs) = onward (value_of names kind f) λ n. values_from names (put kind k n v) (k + 1) kinds fs
+-- A field's value goes into the rest; without one the values stay as they are.
+unfoldable pub onward : Option ℕ → Values → (ℕ → Result Values Values) → Result Values Values
+onward (Some n) v rest = rest n
+onward None v rest = Err v
 
-unfoldable pub values_of : List (List ℕ) → List ℕ → List (List ℕ) → Option Values
+-- The values with those of the fields from k on. They are all there where each field has one of its kind, and there are as many fields as kinds; or one fewer, where that is a floor.
+abbrev pub values_from : List (List ℕ) → Values → ℕ → List ℕ → List (List ℕ) → Result Values Values
+values_from names v k [] [] = Ok v
+values_from names v k [] (f ∷ fs) = Err v
+values_from names v k (kind ∷ kinds) [] = told (is_floor kind) v
+values_from names v k (kind ∷ kinds) (f ∷ fs) = onward (value_of names kind f) v λ n. values_from names (put kind k n v) (k + 1) kinds fs
+
+unfoldable pub values_of : List (List ℕ) → List ℕ → List (List ℕ) → Result Values Values
 values_of names kinds fs = values_from names no_values 0 kinds fs

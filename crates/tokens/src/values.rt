@@ -2,7 +2,7 @@
 ghost use Rattle.std.specs.Prelude.{◌≡◌, ◌≤◌, length};
 ghost use Rattle.tokens.specs.Names.{Few};
 ghost use Rattle.tokens.specs.Part.{fields_from};
-ghost use Rattle.tokens.specs.Form.{most_fields, no_values, word_in, value_at, values_of};
+ghost use Rattle.tokens.specs.Form.{most_fields, no_values, told, word_in, value_at, values_of};
 ghost use Rattle.model.specs.Line.{fields};
 
 use crate::{fields, words};
@@ -33,6 +33,13 @@ fn no_values() -> Values
     }
 }
 
+// The values as all of a form's, or as those that were read of a line that is not of the form.
+fn told(all: bool, v: Values) -> Result<Values, Values>
+    ensures { result ≡ told all v }
+{
+    if all { Ok(v) } else { Err(v) }
+}
+
 // What stands in a field that is no number, by the letter of its kind; `o` is an operation.
 fn word(names: &[u8], kind: u8, s: &[u8]) -> Option<u32>
     requires { Few names.now }
@@ -61,8 +68,8 @@ fn value(names: &[u8], kind: u8, s: &[u8], from: usize) -> Option<(u32, usize)>
     }
 }
 
-// The values of a line's fields from a place on, where there is one letter for the kind of each.
-pub fn read(names: &[u8], kinds: &[u8], s: &[u8], start: usize) -> Option<Values>
+// The values of a line's fields from a place on, where there is one letter for the kind of each; of a line that is not of the form, those that were read up to there.
+pub fn read(names: &[u8], kinds: &[u8], s: &[u8], start: usize) -> Result<Values, Values>
     requires { Few names.now × (length kinds.now ≤ most_fields) }
     ensures { result ≡ values_of (fields names.now) kinds.now (fields_from s.now start) }
 {
@@ -71,9 +78,11 @@ pub fn read(names: &[u8], kinds: &[u8], s: &[u8], start: usize) -> Option<Values
     for (k, &kind) in kinds.iter().enumerate() {
         if s.len() < from {
             // Only a floor may be left out.
-            return (kind == b'f').then_some(v);
+            return told(kind == b'f', v);
         }
-        let (n, end) = value(names, kind, s, from)?;
+        let Some((n, end)) = value(names, kind, s, from) else {
+            return Err(v);
+        };
         from = end + 1;
         match kind {
             b'n' => v.number[k] = n as u16,
@@ -81,5 +90,5 @@ pub fn read(names: &[u8], kinds: &[u8], s: &[u8], start: usize) -> Option<Values
             _ => v.code[k] = n as u8,
         }
     }
-    (s.len() < from).then_some(v)
+    told(s.len() < from, v)
 }
