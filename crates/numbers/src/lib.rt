@@ -109,10 +109,11 @@ pub fn number_to(s: &[u8], from: usize, byte: u8, most: u32) -> Option<(u32, usi
 {
     let mut reader = Reader::start();
     for i in from..s.len() {
-        if s[i] == byte {
+        let b = s[i];
+        if b == byte {
             return reader.answer(most).map(|n| (n, i));
         }
-        reader = reader.feed(s[i]);
+        reader = reader.feed(b);
     }
     reader.answer(most).map(|n| (n, s.len()))
 }

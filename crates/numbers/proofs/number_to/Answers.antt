@@ -7,8 +7,8 @@ use Rattle.numbers.proofs.number_to.Goals as goal
 pub loop-i-init : goal.loop-i-init
 loop-i-init c = search (seeks, rules)
 
-pub returns-then-s-i : goal.returns-then-s-i
-returns-then-s-i c = let ended : c.map.result ≡ with_end c.answer.result c.loop-i.i-counter = search rules in search (seeks, rules)
+pub returns-then-b-byte : goal.returns-then-b-byte
+returns-then-b-byte c = let ended : c.map.result ≡ with_end c.answer.result c.loop-i.i-counter = search rules in search (seeks, rules)
 
 pub loop-i-preserved : goal.loop-i-preserved
 loop-i-preserved c = search (seeks, rules)
