@@ -6,17 +6,18 @@ use mathlib.Core.Bool.{Bool, true, false, false≢true, ◌&&◌, cond}
 use mathlib.Core.List.{List, [], ◌∷◌}
 use mathlib.Core.Path.{◌≡◌, refl, sym, ap, ap₂, ◌∙◌}
 use lib.Dec.{eqb}
-use lib.ListN.{length, take, drop}
+use native.Mathlib.Numerals.{add-one}
+use lib.ListN.{length, get_or, take, drop, drop_of_length-le}
+use lib.Seq.{drop-cons}
 use mir.Syntax.{w32}
 use mir.Val.{Fits}
 use borrow.Author.Tests.{lt-ltb, le-ltb}
-use Rattle.std.specs.Prelude.{Option, Some, None, Result, Ok, Err, nat_eq, ok_or, position, MatchOption}
+use Rattle.std.specs.Prelude.{Option, Some, None, Result, Ok, Err, nat_eq}
 use lib.Pointwise.{pointwise}
-use Rattle.std.specs.List.{list_all, zip, position_from}
-use Rattle.std.specs.Result.{IsErrAnd, result_ok}
+use Rattle.std.specs.List.{list_all, zip}
+use Rattle.std.specs.Result.{result_ok}
 use Rattle.std.proofs.lemmas.Option.{none-some, same_Some}
 use Rattle.std.specs.Char.{to_ascii_uppercase}
-use Rattle.std.proofs.lemmas.Iterator.Adapters.{position_from-zero}
 use Rattle.model.specs.Lists.{same, bytes}
 use Rattle.model.specs.Number.{number_of}
 use Rattle.model.specs.Word.{qualifier_words, capital, capitals, spells, place_in, word_of, variable_code, variable_of, qualifier_of}
@@ -51,27 +52,25 @@ module _ (s word : List ℕ) where
   unfolding spells
   spells_pairs e r is = is ∙ pairs_alike s word e
 
--- The place among words is the first one whose word is spelled, and else how many there are.
-look_place : (at : ℕ) (words : List (List ℕ)) (s : List ℕ) → look_from at words s ≡ ok_or (position_from (λ w. spells s w) at words) (at + length words)
-look_place at [] s = ap Err (omega arith)
-look_place at (word ∷ words) s = by (spells s word) (look_place (at + 1) words s)
-  where
-    by : (t : Bool) → look_from (at + 1) words s ≡ ok_or (position_from (λ w. spells s w) (at + 1) words) (at + 1 + length words)
-        → cond t (Ok at) (look_from (at + 1) words s) ≡ ok_or (cond t (Some at) (position_from (λ w. spells s w) (at + 1) words)) (at + suc (length words))
-    by true later = refl
-    by false later = let same : at + 1 + length words ≡ at + suc (length words) = omega arith in later ∙ ap (λ (n : ℕ). ok_or (position_from (λ w. spells s w) (at + 1) words) n) same
-
-pub look_position : (words : List (List ℕ)) (s : List ℕ) → ok_or (position (λ w. spells s w) words) (length words) ≡ look_up words s
+-- The place is, at each turn, that among the words not yet compared.
+pub look_first : (words : List (List ℕ)) (s : List ℕ) → look_up words s ≡ look_from 0 words s
 unfolding look_up
-look_position words s =
-    let none : 0 + length words ≡ length words = omega arith in
-    sym (look_place 0 words s ∙ rw none (ap (λ (o : Option ℕ). ok_or o (length words)) (sym (position_from-zero (λ w. spells s w) words))))
+look_first words s = refl
 
--- The library's answer where a function gives the error.
-pub or_given : {P : ℕ → Type 0} (n : ℕ) → ((e : ℕ) → P e → e ≡ n) → (o : Option ℕ) (r : Result ℕ ℕ) → MatchOption o (IsErrAnd r P) (λ x. r ≡ Ok x) → r ≡ ok_or o n
-or_given n given (Some x) r is = is
-or_given n given None (Ok x) p = elim p [ ]
-or_given n given None (Err e) p = ap Err (given e p)
+module _ (words : List (List ℕ)) (s : List ℕ) (at : ℕ) (e : look_up words s ≡ look_from at (drop at words) s) where
+  pub look_end : length words ≤ at → Err at ≡ look_up words s
+  look_end h = sym (e ∙ simp (drop_of_length-le words h))
+
+  module _ (n : ℕ) (count : at ≡ n) (word : List ℕ) (turn : (n < length words) × (word ≡ get_or words n word)) where
+    word_first : drop at words ≡ word ∷ drop (at + 1) words
+    word_first = rw (count, drop-cons words n word turn.0, ← turn.1, add-one) refl
+
+    module _ (r : Bool) (spelled : r ≡ spells s word) where
+      pub look_here : r ≡ true → Ok at ≡ look_up words s
+      look_here t = sym (e ∙ simp (word_first, sym spelled ∙ t))
+
+      pub look_next : r ≡ false → look_up words s ≡ look_from (at + 1) (drop (at + 1) words) s
+      look_next t = e ∙ simp (word_first, sym spelled ∙ t)
 
 ok_found : (p : Result ℕ ℕ) (at : ℕ) → result_ok p ≡ Some at → p ≡ Ok at
 ok_found (Ok k) at e = ap Ok (same_Some k at e)

@@ -6,7 +6,6 @@ ghost use Rattle.tokens.specs.Names.{Few};
 ghost use Rattle.tokens.specs.Look.{look_up};
 ghost use Rattle.model.specs.Word.{spells, place_in, word_of, variable_of, qualifier_of, scheme_of, operation_of};
 
-use crate::fields;
 use numbers::number_in;
 
 // Whether both have the same bytes.
@@ -30,10 +29,14 @@ pub fn spells(s: &[u8], word: &[u8]) -> bool
 fn look_up(s: &[u8], words: &[u8]) -> Result<usize, usize>
     ensures { result ≡ look_up (fields words.now) s.now }
 {
-    words
-        .split(|&b| b == b',')
-        .position(|word| spells(s, word))
-        .ok_or_else(|| fields::count(words))
+    let mut at = 0;
+    for word in words.split(|&b| b == b',') {
+        if spells(s, word) {
+            return Ok(at);
+        }
+        at += 1;
+    }
+    Err(at)
 }
 
 // The same as a code, counted from `first`.

@@ -1,20 +1,37 @@
--- The words are the fields of their text, and the place is that of the first one which is spelled.
-use Rattle.std.proofs.Common.{◌≡◌, nat_eq, length, rules, tests, ap, ◌∙◌}
-use Rattle.std.specs.List.{position}
-use Rattle.std.specs.Option.{ok_or}
-use Rattle.std.proofs.lemmas.Iterator.Search.{position_from_yields_List}
+-- The words are the fields of their text, and each is compared in its turn.
+use Rattle.std.proofs.Common.{◌<◌, ◌≡◌, length, get_or, nat_eq, refl, rules, arith}
+use Rattle.std.proofs.lemmas.List.{length_push}
+use Rattle.std.proofs.lemmas.Iterator.Consumers.{YieldsList-at, YieldsList-turn, YieldsList-end}
 use Rattle.std.proofs.lemmas.Iterator.Splits.{YieldsList-from_slice_split}
 use Rattle.model.specs.Line.{fields}
-use Rattle.model.specs.Word.{spells}
 use Rattle.tokens.proofs.Parting.{fields_split}
-use Rattle.tokens.proofs.Spelling.{or_given, look_position}
+use Rattle.tokens.proofs.Spelling.{look_first, look_end, look_here, look_next}
 use Rattle.tokens.proofs.words.look_up.Goals as goal
+use Rattle.tokens.proofs.words.look_up.Goals.{In-Some}
+
+turn : (c : In-Some) → (length c.loop-word.yielded < length (fields c.args.words.now)) × (c.in-Some.word.now ≡ get_or (fields c.args.words.now) (length c.loop-word.yielded) c.in-Some.word.now)
+turn c =
+    rw (fields_split c.args.words.now) at (YieldsList-turn
+    (YieldsList-at c.into_iter-word-iterator.ensures.into_iter_gives
+    (YieldsList-from_slice_split _ (λ b. nat_eq b 44) c.args.words.now c.split-word-items.ensures.rest c.split-word-items.ensures.done c.split-word-items.ensures.closure (λ x b q k. search rules)))
+    c.loop-word.yielded _ c.loop-word.yielded_by _ _ c.in-Some.word c.in-Some.is c.next.ensures.steps)
+
+pub loop-word-init : goal.loop-word-init
+loop-word-init c = (refl, look_first _ _)
+
+pub returns-then-spells : goal.returns-then-spells
+returns-then-spells c = look_here _ _ _ c.loop-word.invariant.1 _ c.loop-word.invariant.0 _ (turn (goal.at.returns-then-spells c).In-Some) _ c.spells.ensures c.if-spells.true
+
+pub loop-word-preserved : goal.loop-word-preserved
+loop-word-preserved c =
+    let counted : c.loop-word.at ≡ length c.loop-word.yielded = c.loop-word.invariant.0 in
+    (omega (arith, length_push c.loop-word.yielded c.in-Some.word), look_next _ _ _ c.loop-word.invariant.1 _ counted _ (turn (goal.at.loop-word-preserved c).In-Some) _ c.spells.ensures c.if-spells.false)
 
 pub returns : goal.returns
 returns c =
-    let found = position_from_yields_List (λ w. spells c.args.s.now w) _ _ c.position.result c.position.ensures.ran
-    (YieldsList-from_slice_split _ (λ b. nat_eq b 44) c.args.words.now c.split.ensures.rest c.split.ensures.done c.split.ensures.closure (λ x b q k. search rules))
-    (λ x b q k. search (rules, tests)) in
-    let place : c.position.result ≡ position (λ w. spells c.args.s.now w) (fields c.args.words.now) = found ∙ ap (position (λ w. spells c.args.s.now w)) (fields_split c.args.words.now) in
-    let or_count : c.ok_or_else.result ≡ ok_or c.position.result (length (fields c.args.words.now)) = or_given _ (λ e p. search rules) c.position.result c.ok_or_else.result c.ok_or_else.ensures.cases in
-    or_count ∙ ap (λ o. ok_or o (length (fields c.args.words.now))) place ∙ look_position (fields c.args.words.now) c.args.s.now
+    let all = rw (fields_split c.args.words.now) at (YieldsList-end
+    (YieldsList-at c.into_iter-word-iterator.ensures.into_iter_gives
+    (YieldsList-from_slice_split _ (λ b. nat_eq b 44) c.args.words.now c.split-word-items.ensures.rest c.split-word-items.ensures.done c.split-word-items.ensures.closure (λ x b q k. search rules)))
+    c.loop-word.yielded _ c.loop-word.yielded_by _ _ c.in-None.is c.next.ensures.steps) in
+    let count : length c.loop-word.yielded ≡ length (fields c.args.words.now) = all.1 in
+    look_end _ _ _ c.loop-word.invariant.1 (omega arith)
