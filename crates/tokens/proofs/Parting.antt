@@ -8,11 +8,12 @@ use mathlib.Core.List.{List, [], ◌∷◌}
 use mathlib.Core.Path.{◌≡◌, refl, sym, ap, ◌∙◌}
 use lib.Dec.{eqb, leb, leb-suc-suc}
 use lib.ListN.{length, get_or, take, drop, length-drop}
-use lib.Seq.{drop-cons, drop-drop}
+use lib.Seq.{drop-cons, drop-drop, take_all}
 use borrow.Author.Tests.{ne_eqb, le-leb, lt-leb}
 use Rattle.std.specs.Prelude.{nat_eq, Option, Some, None, option_map, unwrap_or, slice_get}
 use Rattle.std.proofs.lemmas.Option.{unwrap_or-slice_get}
-use Rattle.std.specs.List.{slice_split, onto_first as slice_onto}
+use Rattle.std.specs.List.{slice_split, count_by, onto_first as slice_onto}
+use Rattle.std.proofs.lemmas.List.Splits.{length-slice_split}
 use Rattle.model.specs.Lists.{length_before}
 use Rattle.model.specs.Line.{onto, fields, field}
 use Rattle.numbers.specs.NumberTo.{next_place, bytes_to}
@@ -106,6 +107,10 @@ fields_split (b ∷ bs) = by (eqb b 44) (fields_split bs)
     by : (t : Bool) → slice_split (λ b. nat_eq b 44) bs ≡ fields bs → cond t ([] ∷ slice_split (λ b. nat_eq b 44) bs) (slice_onto b (slice_split (λ b. nat_eq b 44) bs)) ≡ cond t ([] ∷ fields bs) (onto b (fields bs))
     by true e = ap (λ (fs : List (List ℕ)). [] ∷ fs) e
     by false e = ap (slice_onto b) e ∙ front (fields bs)
+
+-- There is one field more than commas.
+pub fields_counted : (s : List ℕ) (i commas : ℕ) → length s ≤ i → commas ≡ count_by (λ b. nat_eq b 44) (take i s) → commas + 1 ≡ length (fields s)
+fields_counted s i commas end counted = rw (counted, take_all i s end) (sym (length-slice_split (λ b. nat_eq b 44) s) ∙ ap length (fields_split s))
 
 -- The part at a place, which is empty where there is none.
 pub part_or_empty : {R : Type 0} (now : R → List ℕ) (part : Option R) (empty : R) (s : List ℕ) (k : ℕ) → now empty ≡ [] → option_map now part ≡ slice_get (slice_split (λ b. nat_eq b 44) s) k → now (unwrap_or part empty) ≡ field s k
