@@ -1,19 +1,20 @@
 -- Values stored at some places, and marks of the numbers that rows name: one row more, whose own numbers are marked.
 use Prim.Native.Nat.{ℕ, zero, suc, ◌≤◌, ◌<◌}
 use native.Mathlib.Omega.{arith}
-use mathlib.Core.Bool.{Bool, true, false, ◌||◌, or-true, or-false, or_assoc, false≢true}
+use mathlib.Core.Bool.{Bool, true, false, not, ◌&&◌, ◌||◌, or-true, or-false, or_assoc, false≢true}
 use mathlib.Core.List.{List, [], ◌∷◌, ◌++◌}
-use mathlib.Core.Path.{◌≡◌, refl, sym, ap, ◌∙◌}
+use mathlib.Core.Path.{◌≡◌, refl, sym, ap, ap₂, ◌∙◌}
 use lib.Dec.{eqb, ltb}
 use lib.ListN.{length, get_or, set, replicate, length-set}
 use lib.Seq.{get_or-set_same, get_or-set_other}
 use borrow.Author.Tests.{eqb-true, eqb-false, lt-ltb, ltb-true}
 use Rattle.scheme.proofs.Every.{and_left, and_right, and_both}
 use Rattle.model.specs.Lists.{any_of, all_of, contains}
-use Rattle.model.specs.Machine.{Machine, children, named, binds}
+use Rattle.model.specs.Machine.{Machine, children, named, binds, used, bound, twice}
 use Rattle.model.specs.declared.Term.{Term}
 use Rattle.model.specs.declared.Term.TheVariants.{Lam, App, Op, Var, Num, Enc}
 use Rattle.model.specs.declared.TermRow.{TermRow}
+use Rattle.checks.specs.Standing.{Free}
 use Rattle.checks.specs.Taken.{Tells}
 use Rattle.checks.specs.Marks.{is_marked, stores, Marking, Marked, Within}
 use Rattle.checks.specs.declared.marks.Marks.{Marks}
@@ -51,10 +52,14 @@ repeated zero k a = refl
 repeated (suc n) zero a = refl
 repeated (suc n) (suc k) a = repeated n k a
 
--- A test of each entry, of one more.
+-- A test of each entry, of one more, and a test that finds the same.
 any_appended : {A : Type 0} (test : A → Bool) (xs : List A) (a : A) → any_of test (xs ++ (a ∷ [])) ≡ (any_of test xs || test a)
 any_appended test [] a = or-false (test a)
 any_appended test (x ∷ xs) a = rw (any_appended test xs a) (sym (or_assoc (test x) (any_of test xs) (test a)))
+
+any_same : (test test' : ℕ → Bool) → ((n : ℕ) → test n ≡ test' n) → (l : List ℕ) → any_of test l ≡ any_of test' l
+any_same test test' same [] = refl
+any_same test test' same (n ∷ l) = ap₂ (λ (a b : Bool). a || b) (same n) (any_same test test' same l)
 
 pub all-below : (k n : ℕ) (l : List ℕ) → all_of (λ c. ltb c k) l ≡ true → contains n l ≡ true → n < k
 all-below k n [] h there = absurd (false≢true there)
@@ -123,6 +128,15 @@ passed_within m own term few passed =
 pub marks_tell : (names : Term → List ℕ) (rows : List TermRow) (marks : List Bool) → Marking names rows marks → {finds : ℕ → Bool → Type 0} → Tells finds (is_marked marks) →
     Tells finds (λ n. any_of (λ row. contains n (names row.term)) rows)
 marks_tell names rows marks marked tells n found asked = tells n found asked ∙ marked n
+
+-- What the marks say of a term row is what the rows say.
+pub free_by_marks : (m : Machine) (term : Term) (marks : Marks) (free free' : Bool) → Marked m.terms marks →
+    free ≡ (not (any_of (is_marked marks.used) (children term)) && not (twice (children term))) → free' ≡ not (any_of (is_marked marks.bound) (binds term)) → Free m term free free'
+free_by_marks m term marks free free' marked seven eight =
+    record {
+      seven = seven ∙ ap (λ (found : Bool). not found && not (twice (children term))) (any_same (is_marked marks.used) (used m.terms) marked.children_marked (children term));
+      eight = eight ∙ ap not (any_same (is_marked marks.bound) (bound m.terms) marked.binders_marked (binds term));
+    }
 
 -- The first and the second of numbers that are all below one.
 module _ (k : ℕ) {l : List ℕ} (all : all_of (λ n. ltb n k) l ≡ true) where
