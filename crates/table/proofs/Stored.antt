@@ -4,13 +4,15 @@ use native.Mathlib.Numerals.{add-one}
 use native.Mathlib.Omega.{arith}
 use mathlib.Core.Bool.{Bool}
 use mathlib.Core.List.{List, [], ◌∷◌, ◌++◌}
-use mathlib.Core.Path.{◌≡◌, refl}
+use mathlib.Core.Path.{◌≡◌, refl, sym, ◌∙◌}
 use lib.Dec.{eqb, ltb}
 use lib.ListN.{length, take, set, get_or, length-take}
 use lib.Seq.{take-suc-set, take-set-lt, take-take, get_or-take}
 use borrow.Author.Tests.{ne_eqb, lt-ltb, le-ltb, eqb-true, ltb-true}
 use Rattle.scheme.specs.Schemes.{words}
 use Rattle.model.specs.Machine.{Machine, Change, no_param, with_qualifier, settled, first_failing, type_refusal, param_refusal, term_refusal, entered, redeclared, taken_back}
+use Rattle.model.specs.declared.TypeForm.{TypeForm}
+use Rattle.model.specs.declared.Param.{Param}
 use Rattle.model.specs.declared.Term.{Term}
 use Rattle.model.specs.declared.Line.{Line}
 use Rattle.model.specs.declared.Line.TheVariants.{TypeLine, ParamLine, TermLine, NoForm}
@@ -19,7 +21,7 @@ use Rattle.checks.specs.Refused.{refusal_number}
 use Rattle.checks.specs.declared.refusal.Refusal.{Refusal}
 use Rattle.checks.proofs.Refusals.{refusal_some}
 use Rattle.table.specs.Lists.{lists, change}
-use Rattle.table.specs.Stored.{HasRoom, with_params, with_terms, stored}
+use Rattle.table.specs.Stored.{HasRoom, with_types, with_params, with_terms, stored}
 use Rattle.table.proofs.Counts.{Owned, types_whole, params_whole, terms_whole}
 use Rattle.table.specs.declared.Table.{Table}
 use Rattle.table.specs.declared.Answered.{Answered}
@@ -91,6 +93,36 @@ entry_stored t whole (TermLine own term) e =
     let (next, fits) = term_room (lists t) own term e in
     rw (appended t.terms t.termcount own 256 (record { term = term }) whole.term_rows next fits) (accepted _ _ _ e)
 entry_stored t whole NoForm e = absurd (omega (arith, e))
+
+-- The same of one list, where its own array alone has its length.
+module _ (t : Table) (own number : ℕ) (holds : number ≡ 0) where
+  module _ (form : TypeForm) (is : number ≡ type_refusal (lists t) own form) where
+    pub type_stored : length t.types ≡ 64 →
+        change (accepting (with_types t (set t.types own (record { form = form })) (own + 1))) ≡ entered (lists t) (TypeLine own form)
+    unfolding entered type_refusal lists
+    type_stored whole =
+        let (next, fits) = room own _ 64 _ (sym is ∙ holds) in
+        rw (appended t.types t.typecount own 64 (record { form = form }) whole next fits) (accepted _ _ _ (sym is ∙ holds))
+
+  module _ (param : Param) (is : number ≡ param_refusal (lists t) own param) where
+    pub param_room : (own ≡ length (lists t).params) × (own < 64)
+    unfolding param_refusal
+    param_room = room own _ 64 _ (sym is ∙ holds)
+
+    pub param_stored : length t.params ≡ 64 →
+        change (accepting (with_params t (set t.params own param) (own + 1))) ≡ entered (lists t) (ParamLine own param)
+    unfolding entered lists
+    param_stored whole =
+        rw (appended t.params t.paramcount own 64 param whole param_room.0 param_room.1)
+        (accepted _ _ _ (sym is ∙ holds))
+
+  module _ (term : Term) (is : number ≡ term_refusal (lists t) own term) where
+    pub term_stored : length t.terms ≡ 256 →
+        change (accepting (with_terms t (set t.terms own (record { term = term })) (own + 1))) ≡ entered (lists t) (TermLine own term)
+    unfolding entered lists
+    term_stored whole =
+        let (next, fits) = term_room (lists t) own term (sym is ∙ holds) in
+        rw (appended t.terms t.termcount own 256 (record { term = term }) whole next fits) (accepted _ _ _ (sym is ∙ holds))
 
 pub schemes_stored : (t : Table) (line : Line) → (stored t line).schemes ≡ t.schemes
 schemes_stored t (TypeLine own form) = refl
