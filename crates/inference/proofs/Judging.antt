@@ -60,6 +60,13 @@ cause_numbered (Cause.shapes none) z = omega arith
 cause_numbered (Cause.qualifiers some none) z = omega arith
 cause_numbered (Cause.bounds some) z = omega arith
 
+-- The row of an accepted program is 0.
+pub accepted_row : {m : Machine} {n k : ℕ} {word : Slot → ℕ} {shape : Slot → Shape} → n ≡ 0 → Judged (ruling m) m n k word shape → Judged (ruling m) m 0 0 word shape
+accepted_row z (not_closed none) = let no : ⊥ = omega arith in absurd no
+accepted_row z (not_typable closed refusal) = absurd (cause_numbered refusal.cause z)
+accepted_row z (below_floor closed a missed) = let no : ⊥ = omega arith in absurd no
+accepted_row z (typed closed a met) = typed closed a met
+
 module _ {m : Machine} where
   -- 10
   pub judges_open : {r : Refused} (closed : Bool) → Decides m closed → closed ≡ false → r ≡ record { number = 10; row = 0 } → Judges m (Err r)
