@@ -1,5 +1,5 @@
 -- The descriptors of the rows, one row after the other.
-use Prim.Native.Nat.{ℕ, ◌<◌, ◌≤◌}
+use Prim.Native.Nat.{ℕ, ◌+◌, ◌<◌, ◌≤◌}
 use native.Mathlib.Omega.{arith}
 use native.Mathlib.Decide.{dec_lt}
 use mathlib.Core.Bool.{false≢true}
@@ -7,6 +7,7 @@ use mathlib.Core.List.{List}
 use mathlib.Core.Path.{◌≡◌, refl, sym, ap, subst, ◌∙◌}
 use lib.ListN.{length, get_or, take, length-take}
 use lib.Seq.{get_or-take}
+use borrow.Author.Count.{below_more}
 use Rattle.layout.specs.Layout.{row_type, descriptors}
 use Rattle.model.specs.Machine.{Machine, no_type_row, type_at, param_at, term_at, form_in}
 use Rattle.scheme.specs.Schemes.{words}
@@ -21,7 +22,7 @@ use Rattle.forest.proofs.Links.{by_eq}
 use Rattle.graph.specs.Types.{part_at, Parts}
 use Rattle.readings.specs.Nodes.{parameter_of}
 use Rattle.setup.specs.Descriptors.{HasParts, Describes, named_qualifier, named_typerow, Written, Described}
-use Rattle.setup.specs.Passes.{DescribesForm, HasNodes, FormsStand, Only, FormsDescribed, FormsKept, FormsLeft, RowLeft}
+use Rattle.setup.specs.Passes.{DescribesForm, HasNodes, FormsStand, Only, FormsDescribed, FormsKept, FormLeft, FormsLeft, RowLeft}
 
 -- Where every place holds 0, no descriptor was written.
 pub zero_blank : {kids : List ℕ} → ((j : ℕ) → get_or kids j 0 ≡ 0) → (d : ℕ) → HasParts kids d 0 0 0 0
@@ -51,6 +52,32 @@ written_kept same (Written.blank has) = Written.blank (parts_kept same has)
 written_kept same (Written.form below is has) = Written.form below is (parts_kept same has)
 written_kept same (Written.abstraction row below is has) = Written.abstraction row below is (parts_kept same has)
 written_kept same (Written.application row below is has) = Written.application row below is (parts_kept same has)
+
+form_kept : (kids kids' : List ℕ) (x : ℕ) (form : TypeForm) → Same x kids kids' → DescribesForm kids x form → DescribesForm kids' x form
+form_kept kids kids' x Int same d = tt
+form_kept kids kids' x Any same d = tt
+form_kept kids kids' x (Arrow q a q' b) same d = parts_kept same d
+
+-- One more row.
+pub forms_more : (types : List TypeRow) (kids kids' : List ℕ) (x : ℕ) → Only x kids kids' → DescribesForm kids' x (form_in types x) →
+    FormsDescribed types x kids → FormsDescribed types (x + 1) kids'
+forms_more types kids kids' x only here earlier =
+    below_more _ x (λ k h. form_kept kids kids' k (form_in types k) (λ j. only.others k j (λ e. omega arith)) (earlier k h)) here
+
+-- A form that is no ARROW has changed nothing.
+form_left : (kids kids' : List ℕ) (form : TypeForm) → FormLeft form kids kids' → ((q a q' b : ℕ) → form ≡ Arrow q a q' b → ⊥) → (d : ℕ) → Same d kids kids'
+form_left kids kids' Int left none = left
+form_left kids kids' Any left none = left
+form_left kids kids' (Arrow q a q' b) left none = absurd (none q a q' b refl)
+
+-- One more row leaves the descriptors alone where it is no ARROW, and everywhere but at its own place.
+pub forms_left_more : (types : List TypeRow) (kids₀ kids kids' : List ℕ) (x : ℕ) → Only x kids kids' → FormLeft (form_in types x) kids kids' →
+    FormsLeft types x kids₀ kids → FormsLeft types (x + 1) kids₀ kids'
+forms_left_more types kids₀ kids kids' x only here earlier d j h none =
+    by_eq d x
+    (λ e. form_left kids kids' (form_in types x) here (λ q a q' b is. none q a q' b (omega arith) (rw e is)) d j h)
+    (λ other. only.others d j other h)
+    ∙ earlier d j h (λ q a q' b below. none q a q' b (omega arith))
 
 pub forms_kept_none : (kids : List ℕ) → FormsKept kids kids
 forms_kept_none kids x j below h = refl
