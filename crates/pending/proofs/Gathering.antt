@@ -16,6 +16,20 @@ use Rattle.pending.specs.Lines.{FormPair, argument, result, ParamPair, param, Ad
 abbrev Placed : List ℕ → Notes → ℕ → ℕ → ℕ → ℕ → Type 0
 Placed k N from to q x = ((j : ℕ) × (from ≤ j) × (j < to) × (left_at N j ≡ q) × (right_at N j ≡ x)) ⊎ (kind_at k x ≡ int_kind)
 
+-- There is no pair of the sort, and nothing is added.
+pub adds_none : {S : ℕ → ℕ → Type 0} {k : List ℕ} {N : Notes} {n most : ℕ} → ((q x : ℕ) → S q x → ⊥) → Adds S k N N n most n
+adds_none none =
+    record {
+      gathered =
+          record {
+            rising = omega arith;
+            sound = λ j low high. absurd (omega arith);
+            complete = λ q x s. absurd (none q x s);
+          };
+      few = omega arith;
+      earlier = λ j h. (refl, refl);
+    }
+
 pub adds_one : {k : List ℕ} {N N' : Notes} {n q x n' : ℕ} → Added k N N' n q x n' → Adds (OnePair q x) k N N' n 1 n'
 adds_one {N' = N'} {n} (noted new) =
     record {
