@@ -1,18 +1,27 @@
 -- Filling the variables of one code after the other.
-use Prim.Native.Nat.{ℕ, ◌+◌, ◌-◌, ◌<◌}
+use Prim.Native.Nat.{ℕ, zero, suc, ◌+◌, ◌-◌, ◌<◌}
 use native.Mathlib.Omega.{arith}
 use native.Mathlib.Decide.{dec_lt}
-use mathlib.Core.Bool.{Bool, true, false, cond, ◌||◌}
-use mathlib.Core.List.{List}
-use mathlib.Core.Path.{◌≡◌, refl}
+use native.Mathlib.Numerals.{add-one}
+use mathlib.Core.Bool.{Bool, true, false, cond, ◌||◌, or-false, or_assoc}
+use mathlib.Core.List.{List, [], ◌∷◌}
+use mathlib.Core.Path.{◌≡◌, refl, sym}
 use lib.Dec.{eqb}
-use lib.ListN.{length, get_or, set}
+use lib.ListN.{length, get_or, take, set}
 use lib.Seq.{get_or-set_same, get_or-set_other}
 use borrow.Author.Tests.{eqb-true, eqb-false, ne_eqb}
+use Rattle.model.specs.Lists.{any_of}
 use Rattle.scheme.specs.Codes.{stands_for}
 use Rattle.scheme.specs.declared.Standing.TheVariants.{Word, Variable, Nothing}
 use Rattle.scheme.proofs.Codes.{stands_word, stands_variable, stands_nothing}
 use Rattle.slots.specs.Filling.{VariablesFilled}
+
+-- A test over one element more.
+any_of_suc : {A : Type 0} (test : A → Bool) (l : List A) (i : ℕ) (d : A) → i < length l →
+    any_of test (take (suc i) l) ≡ (any_of test (take i l) || test (get_or l i d))
+any_of_suc test [] i d h = let z : ⊥ = omega arith in absurd z
+any_of_suc test (x ∷ l) zero d h = or-false (test x)
+any_of_suc test (x ∷ l) (suc i) d h = rw (any_of_suc test l i d (omega arith)) (sym (or_assoc (test x) (any_of test (take i l)) (test (get_or l i d))))
 
 -- An entry that is filled by one test and then by another.
 twice : (f g : Bool) (word a b c : ℕ) → b ≡ cond f word a → c ≡ cond g word b → c ≡ cond (f || g) word a
@@ -57,3 +66,11 @@ module _ (first : ℕ) (words : List ℕ) where
   pub both_filled : {f g : ℕ → Bool} {a b c : List ℕ} → VariablesFilled first f words a b → VariablesFilled first g words b c →
       VariablesFilled first (λ x. f x || g x) words a c
   both_filled {f} {g} p q = record { entries = λ k h. twice (f (k + first)) (g (k + first)) _ _ _ _ (p.entries k h) (q.entries k h) }
+
+  -- One row more of a list.
+  pub more_filled : {A : Type 0} (test : ℕ → A → Bool) (rows : List A) (i : ℕ) (d : A) {a b c : List ℕ} → i < length rows →
+      VariablesFilled first (λ x. any_of (test x) (take i rows)) words a b →
+      VariablesFilled first (λ x. test x (get_or rows i d)) words b c →
+      VariablesFilled first (λ x. any_of (test x) (take (i + 1) rows)) words a c
+  more_filled test rows i d h p q =
+      record { entries = λ k below. rw (add-one, any_of_suc (test (k + first)) rows i d h) ((both_filled p q).entries k below) }
