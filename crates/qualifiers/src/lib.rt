@@ -140,7 +140,8 @@ impl Qualifiers {
         requires fact_1 { Classes rule.now self.old }
         requires fact_2 { Within rule.now self.old.bounds }
         requires fact_3 { (count ≤ nodes) × Untouched rule.now count self.old }
-        ensures { Greatest rule.now self.old (bound_at self.new.bounds) }
+        ensures fact_1 { Greatest rule.now self.old (bound_at self.new.bounds) }
+        ensures fact_2 { self.new.parents ≡ self.old.parents }
     {
         self.settle_words(rule);
         for x in scheme::words(rule)..count {

@@ -10,4 +10,4 @@ returns c T gov = let program = c.args.program in
     let end = c.requires.fact_3 T gov in
     let holds = held T program (terms_whole program c.well_formed.1.0) c.requires.fact_2 in
     let filled = c.fill.ensures (machine_of T program) (sym (c.words-words.ensures ∙ gov.ruled.words_same)) holds gov.is_well_formed in
-    placed c.settle.new.self.bounds c.settle-2.new.types.kinds gov (sym holds.rows) end c.settle.ensures c.settle-2.ensures.kinds filled
+    placed c.settle.new.self.bounds c.settle-2.new.types.kinds gov (sym holds.rows) end c.settle.ensures.fact_1 c.settle-2.ensures.kinds filled
