@@ -79,7 +79,7 @@ pub record Swept (R : List ℕ) (T : Types) (Q Q' : Qualifiers) (P P' : Pending)
   pub unknown : (j : ℕ) → j < P'.count → (r : ℕ) × UnknownClass T (pair_type P' j) r × Marked P' j r
   pub kept : (k : ℕ) → k < P.count → ((j : ℕ) × (j < P'.count) × SamePair P' j P k) ⊎ ((r : ℕ) × Found T.parents (pair_type P k) r × ¬ (kind_at T.kinds r ≡ Kinds.unknown))
 
--- Or two constants met: a scheme stands with an arrow.
+-- Or two constants met, as a scheme stands with an arrow, and the count is as it was.
 abbrev pub Sweeps : (R : List ℕ) (T : Types) (Q Q' : Qualifiers) (P P' : Pending) → Result ⊤ Apart → Type 0
 Sweeps R T Q Q' P P' (Ok x) = Swept R T Q Q' P P'
-Sweeps R T Q Q' P P' (Err e) = Imposed R Q Q' (ArrowsPlain T P) (QualifiersBelow P) false
+Sweeps R T Q Q' P P' (Err e) = Imposed R Q Q' (ArrowsPlain T P) (QualifiersBelow P) false × (P'.count ≡ P.count)

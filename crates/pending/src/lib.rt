@@ -40,7 +40,8 @@ fn mark(crowded: &mut [u8; NODES], q: usize, x: usize, r: usize)
 }
 
 impl Pending {
-    // Looks at all pairs: makes PLAIN those whose type is an arrow by now, and keeps those whose type is unknown. Or a scheme stands with an arrow.
+    // Looks at all pairs: makes PLAIN those whose type is an arrow by now, and keeps those whose type is unknown. Or a scheme stands with an arrow, and
+    // the count stays.
     pub fn look_through(
         &mut self,
         rule: &[u8; RULE],
@@ -53,16 +54,15 @@ impl Pending {
         requires fact_4 { length self.old.crowded ≡ nodes }
         ensures { Sweeps rule.now types.now qualifiers.old qualifiers.new (pending_in self.old) (pending_in self.new) result }
     {
-        let count = self.count;
-        self.count = 0;
-        for j in 0..count {
+        let mut kept = 0;
+        for j in 0..self.count {
             let q = self.pairs.left[j] as usize;
             let x = self.pairs.right[j] as usize;
             let r = forest::find(&types.parents, x);
             let k = types.kinds[r];
             if k == UNKNOWN {
                 mark(&mut self.crowded, q, x, r);
-                self.count = self.pairs.note(self.count, q, x);
+                kept = self.pairs.note(kept, q, x);
             } else if FIRST_ARROW <= k {
                 // No `?`: std's code can't be linked, and `every_list_answered` (crates/answered) links all that `infer` reaches.
                 if let Err(apart) = qualifiers.unite(rule, q, 0) {
@@ -70,6 +70,7 @@ impl Pending {
                 }
             }
         }
+        self.count = kept;
         Ok(())
     }
 }

@@ -61,8 +61,8 @@ own_united : {R : List ℕ} {Q Q' : Qualifiers} {r : ℕ} {b : Bool} → row_typ
 own_united {R} {Q} {Q'} {b = b} row united = subst (λ (q : ℕ). United R Q Q' q 0 b) (omega arith) united
 
 module _ {R : List ℕ} {Q Q' : Qualifiers} {T : Types} {P : Pending} (r : ℕ) (row : row_type 0 ≤ r) where
-  pub own_apart : {P' : Pending} {e : Apart} → United R Q Q' (row_qualifier (r - row_type 0)) 0 false → MadePlain R T Q Q' P P' r (Err e)
-  own_apart united = apart row (own_united row united)
+  pub own_apart : {e : Apart} → United R Q Q' (row_qualifier (r - row_type 0)) 0 false → MadePlain R T Q Q' P P r (Err e)
+  own_apart united = apart row (own_united row united) refl
 
   pub own_plain : {x : ⊤} → United R Q Q' (row_qualifier (r - row_type 0)) 0 true → get_or P.crowded r 0 ≡ 0 → MadePlain R T Q Q' P P r (Ok x)
   own_plain united unmarked = alone unmarked row (own_united row united) refl
@@ -100,7 +100,7 @@ module _ (R kids : List ℕ) (T : Types) (Q : Qualifiers) (P : Pending) (i a r :
   pub bind_cyclic : {T₁ : Types} → Bound kids T T₁ r (row_type i) false → Answers T₁ Q P (Err (failures.Types Clash))
   bind_cyclic bound =
       rw (bound.same refl)
-      ((λ t v reads e. bound.none refl t v (own_arrow.into t v reads e).0), record { classes = types; outof = λ t reads. reads }, next)
+      ((λ t v reads e. bound.none refl t v (own_arrow.into t v reads e).0), record { classes = types; outof = λ t reads. reads }, next, refl)
 
   opened : Opened kids T T' i r
   opened =
@@ -154,8 +154,9 @@ module _ (R kids : List ℕ) (T : Types) (Q : Qualifiers) (P : Pending) (i a r :
 
     pub bind_apart : {P' : Pending} {e : Apart} → MadePlain R T' Q Q' P P' r (Err e) → Answers T' Q' P' (Err failures.Apart)
     bind_apart (looked look) =
-        (parted_cleared taken (λ t v constant reads linked plain. look.clash refl v constant linked (arrows_plain (omega arith) ready.watched.held reads plain.0)), opened.unused)
-    bind_apart (apart row imposed) = (parted_cleared taken (λ t v constant reads linked plain. imposed.clash refl v constant linked (own_reading row t v reads plain)), opened.unused)
+        (parted_cleared taken (λ t v constant reads linked plain. look.0.clash refl v constant linked (arrows_plain (omega arith) ready.watched.held reads plain.0)), opened.unused, look.1)
+    bind_apart (apart row imposed pairs) =
+        (parted_cleared taken (λ t v constant reads linked plain. imposed.clash refl v constant linked (own_reading row t v reads plain)), opened.unused, ap (λ (P : Pending). P.count) (sym pairs))
 
     module _ {left right crowded : List ℕ} {n : ℕ} {x : ⊤} (made : MadePlain R T' Q Q' P (pending_of left right crowded n) r (Ok x)) where
       -- There is room for the row's pair, and the bounds can be tested.

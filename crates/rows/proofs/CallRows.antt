@@ -58,9 +58,9 @@ module _ (R kids u k : List ℕ) (Q : Qualifiers) (P : Pending) (i a d : ℕ) (s
   unused_after : Unused (row_type (i + 1)) T' kids
   unused_after = (confined next none_noted).0
 
-  pub call_conflict : (P' : Pending) (conflict : Conflict) → r ≡ Err conflict → Answers Q P' (Err (failures.Types conflict))
-  call_conflict P' Clash e = let clash = rw e at answer in (clash.0, clash.1, unused_after)
-  call_conflict P' Lost e = rw e at answer
+  pub call_conflict : (crowded₁ : List ℕ) (conflict : Conflict) → r ≡ Err conflict → Answers Q (remarked P crowded₁) (Err (failures.Types conflict))
+  call_conflict crowded₁ Clash e = let clash = rw e at answer in (clash.0, clash.1, unused_after, refl)
+  call_conflict crowded₁ Lost e = (rw e at answer, refl)
 
   module _ {m : ℕ} (e : r ≡ Ok m) where
     noted : Joined kids T N T' N' 0 m (Calls kids d i a)
@@ -70,7 +70,7 @@ module _ (R kids u k : List ℕ) (Q : Qualifiers) (P : Pending) (i a d : ℕ) (s
     pairs_below = subst (λ (j : ℕ). PairsBelow j N' m) (omega arith) (rw e at (confined next none_noted)).1
 
     pub call_apart : {Q₁ : Qualifiers} → UnitedAll R Q Q₁ N' m false → Answers Q₁ P (Err failures.Apart)
-    call_apart apart = (parted (taken_noted noted) (λ j h. refl) (apart.clash refl), unused_after)
+    call_apart apart = (parted (taken_noted noted) (λ j h. refl) (apart.clash refl), unused_after, refl)
 
     module _ {Q₁ : Qualifiers} (united : UnitedAll R Q Q₁ N' m true) where
       called : Extended R kids T Q T' Q₁ Plain (Calls kids d i a) (λ v. Unit {0})
@@ -125,6 +125,6 @@ module _ (R kids u k : List ℕ) (Q : Qualifiers) (P : Pending) (i a d : ℕ) (s
             pub call_broken : within ≡ false → Answers Q₂ P₂ (Err failures.Broken)
             call_broken over = (after, unused_after, tested.broken over, ((cleared looked).watched, carried))
 
-          pub call_parted : {e : Apart} → LookedIf R T' Q₁ Q₂ P₁ P₂ closes (Err e) → Answers Q₂ P (Err failures.Apart)
+          pub call_parted : {e : Apart} → LookedIf R T' Q₁ Q₂ P₁ P₂ closes (Err e) → Answers Q₂ P₂ (Err failures.Apart)
           call_parted (swept look) =
-              (parted_cleared called (λ t v constant reads linked plain. look.clash refl v constant linked (arrows_plain (omega arith) held reads plain.0)), unused_after)
+              (parted_cleared called (λ t v constant reads linked plain. look.0.clash refl v constant linked (arrows_plain (omega arith) held reads plain.0)), unused_after, look.1)

@@ -86,7 +86,7 @@ module _ {i l r : ℕ} {R u k p b : List ℕ} (o : ℕ) (stands : (i < 256) × (
     pub left_clash : one ≡ false → Steps u₁ k₁ p b (Err (failures.Types Clash))
     left_clash clashed kids P ready =
         let clash = first.clash clashed kids in
-        (λ t v reads e. clash.0 t v reads e.0, clash.1, unused_more (unused_first kids refl ready.types) (omega arith))
+        (λ t v reads e. clash.0 t v reads e.0, clash.1, unused_more (unused_first kids refl ready.types) (omega arith), refl)
 
     module _ (made : one ≡ true) where
       pub left_classes : TypeClasses (types_of u₁ k₁)
@@ -104,6 +104,7 @@ module _ {i l r : ℕ} {R u k p b : List ℕ} (o : ℕ) (stands : (i < 256) × (
               λ t v reads e. clash.0 t v (before.into t v reads e.0).0 e.1,
               intact_after (λ t reads. (before.outof t (λ x. 0) reads tt).0) clash.1,
               unused_more (unused_second kids ready.types) (omega arith),
+              refl,
             )
 
         module _ (both : two ≡ true) where
@@ -145,6 +146,7 @@ module _ {i l r : ℕ} {R u k p b : List ℕ} (o : ℕ) (stands : (i < 256) × (
             operands_apart apart kids P ready = (
               parted (taken kids ready.types) (refl, refl) (λ v constant linked q. apart.clash refl v constant linked q.0),
               unused_after kids ready.types,
+              refl,
             )
 
             module _ {class : ℕ} (united : United R (qualifiers_of p b) (qualifiers_of p₁ b₁) (row_qualifier r) (row_qualifier l) true) (of : Class b (qualifiers_of p₁ b₁) (row_qualifier l) class) where

@@ -24,6 +24,6 @@ pub data MadePlain (R : List ℕ) (T : Types) (Q Q' : Qualifiers) (P P' : Pendin
   looked : {s : Result ⊤ Apart} → Sweeps R T Q Q' P P' s → MadePlain R T Q Q' P P' r s
   alone : {x : ⊤} → (get_or P.crowded r 0 ≡ 0) → (row_type 0 ≤ r) → Imposed R Q Q' (λ v. v (qualifiers_from r) ≡ v 0) (λ m. (qualifiers_from r < m) × (0 < m)) true →
       P ≡ P' → MadePlain R T Q Q' P P' r (Ok x)
-  apart : {e : Apart} → (row_type 0 ≤ r) → Imposed R Q Q' (λ v. v (qualifiers_from r) ≡ v 0) (λ m. (qualifiers_from r < m) × (0 < m)) false → MadePlain R T Q Q' P P' r (Err e)
+  apart : {e : Apart} → (row_type 0 ≤ r) → Imposed R Q Q' (λ v. v (qualifiers_from r) ≡ v 0) (λ m. (qualifiers_from r < m) × (0 < m)) false → P ≡ P' → MadePlain R T Q Q' P P' r (Err e)
   -- a type row that is not marked has no pairs
   bare : {x : ⊤} → (get_or P.crowded r 0 ≡ 0) → (r < row_type 0) → Q' ≡ Q → P ≡ P' → MadePlain R T Q Q' P P' r (Ok x)

@@ -154,4 +154,4 @@ lined {R} {kids} {q} {ty} {T} {Q} {m} P Q' P' r first second of begun = go r
       start_after of.governed begun.described begun.started pairs swept,
       start_ready of.governed begun.described begun.started pairs swept,
     )
-    go (Err e) apart = lines_refused of.governed begun.described begun.started pairs of.some apart
+    go (Err e) apart = lines_refused of.governed begun.described begun.started pairs of.some apart.0

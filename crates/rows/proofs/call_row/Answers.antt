@@ -1,12 +1,10 @@
 -- `rows::call_row`: each way out is one law over the state before and after.
-use Rattle.pending.specs.Pending.{pending_in}
-use Rattle.rows.proofs.Watching.{remarked}
 use Rattle.rows.proofs.CallRows.{call_conflict, call_apart, call_classes, call_fine, call_broken, call_parted}
 use Rattle.rows.proofs.call_row.Goals as goal
 
 pub returns-in-Err : goal.returns-in-Err
 returns-in-Err c = let call = c.call in
-    call_conflict _ _ _ _ _ _ _ _ _ c.requires.fact_4 c.requires.fact_5 _ _ _ call.result call.ensures.fact_1 call.ensures.fact_2 (remarked (pending_in c.args.state.now.pending) c.makes_arrows-closes.new.crowded) _ c.in-Err.is
+    call_conflict _ _ _ _ _ _ _ _ _ c.requires.fact_4 c.requires.fact_5 _ _ _ call.result call.ensures.fact_1 call.ensures.fact_2 c.makes_arrows-closes.new.crowded _ c.in-Err.is
 
 pub returns-in_default : goal.returns-in_default
 returns-in_default c = let call = c.call in
