@@ -8,7 +8,7 @@ use scheme::{OPERATIONS, PAIRS, QUALIFIERS, SCHEMES};
 use std::array;
 
 // Of PLAIN and the schemes, `words` qualifiers: whether a is at or below b stands at 9 * a + b.
-#[derive(Drop)]
+#[derive(Clone, Copy)]
 pub(crate) struct Order {
     below: [bool; PAIRS],
     words: usize,

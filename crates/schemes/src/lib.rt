@@ -34,6 +34,7 @@ pub struct Schemes {
 }
 
 // Why a file is refused: its lines are not written as a scheme file's, or what the solver reads does not exist.
+#[derive(Clone, Copy)]
 enum Refusal {
     Form,
     Missing(Missing),

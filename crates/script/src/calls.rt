@@ -22,6 +22,7 @@ pub trait Calls {
 }
 
 // By the calls that take the table and hand it back.
+#[derive(Clone, Copy)]
 pub struct ByValue;
 
 impl Calls for ByValue {
@@ -39,6 +40,7 @@ impl Calls for ByValue {
 }
 
 // Through the layer that lends the table.
+#[derive(Clone, Copy)]
 pub struct Lent;
 
 impl Calls for Lent {
