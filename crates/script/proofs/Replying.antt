@@ -52,31 +52,33 @@ module _ (t : Table) (s buffer : List ℕ) (ready : Ready t) (c : Command) (read
   makes_as : {call : Call} (c' : Command) → c ≡ c' → Makes (said c' s) call → Makes (command_of s) call
   makes_as {call} c' e makes = subst (λ (x : Script.Command). Makes x call) (ap (λ (x : Command). said x s) (sym e) ∙ reads) makes
 
-  -- The number of a call stands at the front of the buffer.
-  module _ (r : Answered) (size : ℕ) (front : Front (line (decimal r.number ∷ [])) buffer size) where
+  -- The number of a call stands at the front of the buffer, and the turn keeps its table.
+  module _ (r : Answered) (o : Turn) (kept : o.table ≡ r.table) (front : Front (line (decimal r.number ∷ [])) buffer o.size) where
     call_replied : {call : Call} → Makes (command_of s) call → Called t call r → answer call (returning r.number) ≡ line (decimal r.number ∷ []) →
-        Replied (lists t) s buffer (turn r.table size)
+        Replied (lists t) s buffer o
     call_replied makes called is =
-        replied r.table size (call_ready ready called) makes (call_follows called) (subst (λ (text : List ℕ). Front text buffer size) (sym is) front)
+        subst (λ (after : Table). Replied (lists t) s buffer (turn after o.size)) (sym kept)
+        (replied r.table o.size (call_ready ready called) makes (call_follows called) (subst (λ (text : List ℕ). Front text buffer o.size) (sym is) front))
 
-    pub add_replied : c ≡ Add → (change r ≡ added (lists t) (take (length s - 4) (drop 4 s))) × (r.table.schemes ≡ t.schemes) → Replied (lists t) s buffer (turn r.table size)
+    pub add_replied : c ≡ Add → (change r ≡ added (lists t) (take (length s - 4) (drop 4 s))) × (r.table.schemes ≡ t.schemes) → Replied (lists t) s buffer o
     unfolding said
     add_replied e is = call_replied (makes_as Add e Makes.adds) (Called.adds (is.0 ∙ ap (added (lists t)) (rest-is 4 s)) is.1) refl
 
-    pub redeclare_replied : (p code : ℕ) → c ≡ Redeclare p code → (change r ≡ redeclared (lists t) p code) × (r.table.schemes ≡ t.schemes) → Replied (lists t) s buffer (turn r.table size)
+    pub redeclare_replied : (p code : ℕ) → c ≡ Redeclare p code → (change r ≡ redeclared (lists t) p code) × (r.table.schemes ≡ t.schemes) → Replied (lists t) s buffer o
     unfolding said
     redeclare_replied p code e is = call_replied (makes_as (Redeclare p code) e Makes.redeclares) (Called.redeclares is.0 is.1) refl
 
-    pub take_back_replied : c ≡ TakeBack → (change r ≡ taken_back (lists t)) × (r.table.schemes ≡ t.schemes) → Replied (lists t) s buffer (turn r.table size)
+    pub take_back_replied : c ≡ TakeBack → (change r ≡ taken_back (lists t)) × (r.table.schemes ≡ t.schemes) → Replied (lists t) s buffer o
     unfolding said
     take_back_replied e is = call_replied (makes_as TakeBack e Makes.takes_back) (Called.takes_back is.0 is.1) refl
 
-    pub restart_replied : c ≡ Schemes → (change r ≡ restarted (lists t) (file_in (take (length s - 8) (drop 8 s)))) × Ready r.table → Replied (lists t) s buffer (turn r.table size)
+    pub restart_replied : c ≡ Schemes → (change r ≡ restarted (lists t) (file_in (take (length s - 8) (drop 8 s)))) × Ready r.table → Replied (lists t) s buffer o
     unfolding said
     restart_replied e is =
         let whole : change r ≡ restarted (lists t) (file_in (drop 8 s)) = is.0 ∙ ap (λ (rest : List ℕ). restarted (lists t) (file_in rest)) (rest-is 8 s) in
         let file = file_in (drop 8 s) in
         let replies : Replies (lists t) s (line (decimal (restarted (lists t) file).number ∷ [])) (restarted (lists t) file).machine = Replies.restarts (sym reads ∙ ap (λ (x : Command). said x s) e) in
+        subst (λ (after : Table). Replied (lists t) s buffer (turn after o.size)) (sym kept)
         record {
           replies = subst (λ (text : List ℕ). Replies (lists t) s text (lists r.table)) (sym front.bytes) (subst (λ (after : Change). Replies (lists t) s (line (decimal after.number ∷ [])) after.machine) (sym whole) replies);
           ready = is.1;

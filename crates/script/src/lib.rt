@@ -11,7 +11,7 @@ ghost use Rattle.report.specs.Writing.{Front};
 ghost use Rattle.script.specs.Turns.{Replied, Told, AnsweredAt, Tried, Put, Kept};
 
 use command::Command;
-use table::Table;
+use table::{Answered, Table};
 
 mod calls;
 
@@ -39,33 +39,27 @@ pub fn answer<C: Calls>(table: Table, line: &[u8], buffer: &mut [u8]) -> Turn
     ensures { Replied (lists table) line.now buffer.new result }
 {
     match command::read(line) {
-        Command::Add => {
-            let added = C::add(table, &line[4..]);
-            let after = added.table;
-            let size = write_number(added.number, buffer);
-            Turn { table: after, size }
-        }
+        Command::Add => told(C::add(table, &line[4..]), buffer),
         Command::Redeclare(p, code) => {
-            let redeclared = C::redeclare(table, p as usize, code as usize);
-            let after = redeclared.table;
-            let size = write_number(redeclared.number, buffer);
-            Turn { table: after, size }
+            told(C::redeclare(table, p as usize, code as usize), buffer)
         }
-        Command::TakeBack => {
-            let taken = C::take_back(table);
-            let after = taken.table;
-            let size = write_number(taken.number, buffer);
-            Turn { table: after, size }
-        }
+        Command::TakeBack => told(C::take_back(table), buffer),
         Command::Infer => unchanged(table, inference::print(table, buffer)),
-        Command::Schemes => {
-            let restarted = calls::restart(table, &line[8..]);
-            let after = restarted.table;
-            let size = write_number(restarted.number, buffer);
-            Turn { table: after, size }
-        }
+        Command::Schemes => told(calls::restart(table, &line[8..]), buffer),
         Command::Run => unchanged(table, write_run(table, &line[4..], buffer)),
         Command::Nothing => unchanged(table, write_unknown(buffer)),
+    }
+}
+
+// The turn of a call that may change the table: its number is written. In one place, as each table that a function keeps costs its clearing.
+fn told(answered: Answered, buffer: &mut [u8]) -> Turn
+    requires { (answered.number ≤ 27) × (6280 ≤ length buffer.old) }
+    ensures { (result.table ≡ answered.table) × Front (line (decimal answered.number ∷ [])) buffer.new result.size }
+{
+    let size = write_number(answered.number, buffer);
+    Turn {
+        table: answered.table,
+        size,
     }
 }
 

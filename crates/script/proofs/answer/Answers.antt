@@ -10,14 +10,14 @@ slice_bounds-add-count g c = let h = word_within c.args.line.now c.read.ensures.
 pub slice_bounds-add-start : goal.slice_bounds-add-start
 slice_bounds-add-start g c = let h = word_within c.args.line.now c.read.ensures.1 c.in-Add.is in omega arith
 
-pub write_number-size-requires : goal.write_number-size-requires
-write_number-size-requires g c = (search (add_small, rules), search rules)
+pub told-requires : goal.told-requires
+told-requires g c = (search (add_small, rules), search rules)
 
-pub write_number-size-requires-in-Redeclare : goal.write_number-size-requires-in-Redeclare
-write_number-size-requires-in-Redeclare g c = (search (redeclare_small, rules), search rules)
+pub told-requires-in-Redeclare : goal.told-requires-in-Redeclare
+told-requires-in-Redeclare g c = (search (redeclare_small, rules), search rules)
 
-pub write_number-size-requires-in-TakeBack : goal.write_number-size-requires-in-TakeBack
-write_number-size-requires-in-TakeBack g c = (search (take_back_small, rules), search rules)
+pub told-requires-in-TakeBack : goal.told-requires-in-TakeBack
+told-requires-in-TakeBack g c = (search (take_back_small, rules), search rules)
 
 pub slice_bounds-restart-count : goal.slice_bounds-restart-count
 slice_bounds-restart-count g c = let h = word_within c.args.line.now c.read.ensures.1 c.in-Schemes.is in omega arith
@@ -25,8 +25,8 @@ slice_bounds-restart-count g c = let h = word_within c.args.line.now c.read.ensu
 pub slice_bounds-restart-start : goal.slice_bounds-restart-start
 slice_bounds-restart-start g c = let h = word_within c.args.line.now c.read.ensures.1 c.in-Schemes.is in omega arith
 
-pub write_number-size-requires-in-Schemes : goal.write_number-size-requires-in-Schemes
-write_number-size-requires-in-Schemes g c = (search (restart_small, rules), search rules)
+pub told-requires-in-Schemes : goal.told-requires-in-Schemes
+told-requires-in-Schemes g c = (search (restart_small, rules), search rules)
 
 pub slice_bounds-write_run-count : goal.slice_bounds-write_run-count
 slice_bounds-write_run-count g c = let h = word_within c.args.line.now c.read.ensures.1 c.in-Run.is in omega arith
