@@ -3,3 +3,4 @@ pub mod Contexts
 pub mod Turns
 pub mod Weights
 pub mod Stacking
+pub mod Keeping

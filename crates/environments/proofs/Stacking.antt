@@ -3,7 +3,7 @@ use Prim.Native.Nat.{ℕ, zero, suc, ◌+◌, ◌-◌, ◌≤◌, ◌<◌}
 use native.Mathlib.Omega.{arith}
 use native.Mathlib.Numerals.{add-one}
 use mathlib.Core.List.{List, ◌∷◌}
-use mathlib.Core.Path.{◌≡◌, refl, ap, ap₂, subst, ◌∙◌}
+use mathlib.Core.Path.{◌≡◌, refl, ap, ap₂}
 use lib.ListN.{length, set}
 use lib.Seq.{get_or-set_same, get_or-set_other}
 use Rattle.environments.specs.Frames.{no_frame, frame_in, stacked}
@@ -28,3 +28,12 @@ pub stacked_less : (f : List Frame) (d : ℕ) → 0 < d → stacked f d ≡ fram
 unfolding stacked
 stacked_less f zero h = let z : ⊥ = omega arith in absurd z
 stacked_less f (suc d) h = let e : suc d - 1 ≡ d = omega arith in rw e refl
+
+-- A frame put in the place of the one that stands inside j others.
+pub stacked_put : (f : List Frame) (at d j : ℕ) (x : Frame) → at + suc j ≡ d → d ≤ length f → stacked (set f at x) d ≡ set (stacked f d) j x
+unfolding stacked
+stacked_put f at zero j x is h = let z : ⊥ = omega arith in absurd z
+stacked_put f at (suc d) zero x is h =
+    let same : at ≡ d = omega arith in
+    ap₂ ◌∷◌ (rw same (get_or-set_same f d x no_frame h)) (stacked_set f at d x (omega arith))
+stacked_put f at (suc d) (suc j) x is h = ap₂ ◌∷◌ (get_or-set_other f at d x no_frame (λ e. let z : ⊥ = omega arith in z)) (stacked_put f at d j x (omega arith) (omega arith))

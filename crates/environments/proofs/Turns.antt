@@ -114,12 +114,12 @@ module _ (m : Machine) (w : WellFormed m) (word : Slot → ℕ) where
   lam_control {i = i} {p = p} {b} lam (a_row h binds) = rw (row_expression_lem i h (Lam p b) lam) (a_value (Means.a_function h lam binds))
 
   num_control : {c : List Cell} {count i place n : ℕ} {e : Expression} → term_at m i ≡ Num n → Control m word c count (Focus.Row i place) e →
-      Control m word c count (Focus.Datum (Datum.Number n (word (row i)))) e
+      Control m word c count (Focus.Datum (Datum.Number (word (row i)) n)) e
   unfolding close
   num_control {i = i} {n = n} is (a_row h binds) = rw (row_expression_lem i h (Num n) is) (a_value Means.a_number)
 
   enc_control : {c : List Cell} {count i place x n : ℕ} {e : Expression} → term_at m i ≡ Enc x n → Control m word c count (Focus.Row i place) e →
-      Control m word c count (Focus.Datum (Datum.Number n (word (row i)))) e
+      Control m word c count (Focus.Datum (Datum.Number (word (row i)) n)) e
   unfolding close
   enc_control {i = i} {x = x} {n} is (a_row h binds) = rw (row_expression_lem i h (Enc x n) is) (a_value Means.a_number)
 
@@ -187,12 +187,12 @@ module _ (m : Machine) (w : WellFormed m) (word : Slot → ℕ) where
   means_function Means.a_number e = let z : ◌≡◌ {A = ℕ} 0 1 = cc e in let no : ⊥ = omega arith in absurd no
   means_function (Means.a_function {i} {place = l} {p} {b} h lam own) e = (i, l, refl, h, p, b, lam)
 
-  means_number : {c : List Cell} {count a t : ℕ} {d : Datum} {v : Expression} → Means m word c count d v → v ≡ number a t → d ≡ Datum.Number a t
+  means_number : {c : List Cell} {count a t : ℕ} {d : Datum} {v : Expression} → Means m word c count d v → v ≡ number a t → d ≡ Datum.Number t a
   unfolding close
   means_number {a = a} {t = t} (Means.a_number {n} {tag}) e = let (en, et) : (n ≡ a) × (tag ≡ t) = (cc e, cc e) in rw (en, et) refl
   means_number (Means.a_function h lam own) e = let z : ◌≡◌ {A = ℕ} 0 1 = cc e in let no : ⊥ = omega arith in absurd no
 
-  number_means : {c : List Cell} {count n tag : ℕ} {v : Expression} → Means m word c count (Datum.Number n tag) v → v ≡ number n tag
+  number_means : {c : List Cell} {count n tag : ℕ} {v : Expression} → Means m word c count (Datum.Number tag n) v → v ≡ number n tag
   number_means Means.a_number = refl
 
   -- One cell more.
@@ -260,10 +260,10 @@ module _ (m : Machine) (w : WellFormed m) (word : Slot → ℕ) where
       pub at_lam : {p b : ℕ} → term_at m i ≡ Lam p b → State c f (Focus.Datum (Datum.Function i place)) made
       at_lam lam = moved st st.contexts st.expression refl (lam_control lam st.control) st.stack
 
-      pub at_num : {n : ℕ} → term_at m i ≡ Num n → State c f (Focus.Datum (Datum.Number n (word (row i)))) made
+      pub at_num : {n : ℕ} → term_at m i ≡ Num n → State c f (Focus.Datum (Datum.Number (word (row i)) n)) made
       at_num is = moved st st.contexts st.expression refl (num_control is st.control) st.stack
 
-      pub at_enc : {x n : ℕ} → term_at m i ≡ Enc x n → State c f (Focus.Datum (Datum.Number n (word (row i)))) made
+      pub at_enc : {x n : ℕ} → term_at m i ≡ Enc x n → State c f (Focus.Datum (Datum.Number (word (row i)) n)) made
       at_enc is = moved st st.contexts st.expression refl (enc_control is st.control) st.stack
 
       pub at_var : {x j : ℕ} → term_at m i ≡ Var x → Found c made.applications place x j → State c f (Focus.Datum (cell_in c j).datum) made
@@ -340,10 +340,10 @@ module _ (m : Machine) (w : WellFormed m) (word : Slot → ℕ) where
     bottom_only bottom = refl
 
     module _ {c : List Cell} {made : Counts} where
-      pub ends_with_number : {n t : ℕ} → State c [] (Focus.Datum (Datum.Number n t)) made → Ends (ended (a_number n t) made)
+      pub ends_with_number : {n t : ℕ} → State c [] (Focus.Datum (Datum.Number t n)) made → Ends (ended (a_number n t) made)
       ends_with_number {n} {t} st = st.tail _ (rw (bottom_only st.stack) (go (value_means st.control)))
         where
-          go : {e : Expression} → Means m word c made.applications (Datum.Number n t) e → Runs (Tagged (ruling m)) budget e made (ended (a_number n t) made)
+          go : {e : Expression} → Means m word c made.applications (Datum.Number t n) e → Runs (Tagged (ruling m)) budget e made (ended (a_number n t) made)
           go Means.a_number = ends_number
 
       pub ends_with_function : {i l : ℕ} → State c [] (Focus.Datum (Datum.Function i l)) made → Ends (ended a_function made)
@@ -439,8 +439,8 @@ module _ (m : Machine) (w : WellFormed m) (word : Slot → ℕ) where
         pub x : ℕ
         pub y : ℕ
         pub tag : ℕ
-        pub left_is : u ≡ Datum.Number x tag
-        pub right_is : v ≡ Datum.Number y tag
+        pub left_is : u ≡ Datum.Number tag x
+        pub right_is : v ≡ Datum.Number tag y
         pub R : List Context
         pub stack : Stack m word c made.applications f R
         pub step : Step (Tagged (ruling m)) (length R + 0) (operation (calculated o x y)) (plug st.contexts st.expression) (plug R (number (calculated o x y) (result_tag o tag)))
@@ -467,7 +467,7 @@ module _ (m : Machine) (w : WellFormed m) (word : Slot → ℕ) where
                     (plug_step (stack_upright s) (operates works));
               }
 
-      module _ {x y t s : ℕ} (left_at : u ≡ Datum.Number x t) (right_at : v ≡ Datum.Number y s) where
+      module _ {x y t s : ℕ} (left_at : u ≡ Datum.Number t x) (right_at : v ≡ Datum.Number s y) where
         -- The step on the operands that the frame and the point hold.
         operated : Operands → (R : List Context)
             × (length R ≡ length f)
@@ -480,7 +480,7 @@ module _ (m : Machine) (w : WellFormed m) (word : Slot → ℕ) where
             (here.R, stack_length here.stack, here.stack, rw (ex, ey, es) here.step)
 
         pub operates_on : ¬ (steps made ≡ budget) → length f ≤ most_contexts → calculated o x y ≤ largest_number →
-            State c f (Focus.Datum (Datum.Number (calculated o x y) (result_tag o s))) (counted (operation (calculated o x y)) made)
+            State c f (Focus.Datum (Datum.Number (result_tag o s) (calculated o x y))) (counted (operation (calculated o x y)) made)
         operates_on unspent shallow fits =
             let (R, size, s', step) = operated operands in
             let shallow' : length R + 0 ≤ most_contexts = omega arith in

@@ -1,3 +1,4 @@
 pub mod Standing
 pub mod Weights
 pub mod Frames
+pub mod Kept

@@ -66,7 +66,7 @@ module _ (m : Machine) (word : Slot → ℕ) where
   -- What is bound at a place of the first `count` cells. Place 0 binds nothing, place j + 1 is cell j, which binds a parameter, the others being bound where `next` says.
   pub data Binds (c : List Cell) (count : ℕ) : ℕ → Env → Type 0 where
     nothing : Binds c count 0 variable
-    a_number : {j n tag : ℕ} {σ : Env} → j < count → (cell_in c j).next ≤ j → (cell_in c j).datum ≡ Datum.Number n tag → Binds c count (cell_in c j).next σ →
+    a_number : {j n tag : ℕ} {σ : Env} → j < count → (cell_in c j).next ≤ j → (cell_in c j).datum ≡ Datum.Number tag n → Binds c count (cell_in c j).next σ →
         Binds c count (suc j) (extended (cell_in c j).param (number n tag) σ)
     a_function : {j i place p b : ℕ} {σ τ : Env} → j < count → (cell_in c j).next ≤ j → (cell_in c j).datum ≡ Datum.Function i place → i < length m.terms →
         term_at m i ≡ Lam p b → NoneFree (close τ (function p (row_of b))) → Binds c count place τ → Binds c count (cell_in c j).next σ →
@@ -74,7 +74,7 @@ module _ (m : Machine) (word : Slot → ℕ) where
 
   -- What a value is: a number with its tag, or a LAM's row with its parameters bound at a place.
   pub data Means (c : List Cell) (count : ℕ) : Datum → Expression → Type 0 where
-    a_number : {n tag : ℕ} → Means c count (Datum.Number n tag) (number n tag)
+    a_number : {n tag : ℕ} → Means c count (Datum.Number tag n) (number n tag)
     a_function : {i place p b : ℕ} {τ : Env} → i < length m.terms → term_at m i ≡ Lam p b → Binds c count place τ →
         Means c count (Datum.Function i place) (close τ (function p (row_of b)))
 

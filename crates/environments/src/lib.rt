@@ -1,10 +1,12 @@
 // What the arrays of a dry run stand for, and what each of its moves does to that.
 #![tactic(auto)]
 
-ghost use Rattle.std.specs.Prelude.{◌≡◌, ◌≤◌, ◌<◌, ◌∷◌, length};
-ghost use Rattle.environments.specs.Frames.{stacked};
+ghost use Rattle.std.specs.Prelude.{◌≡◌, ◌≤◌, ◌<◌, [], ◌∷◌, length, set};
 
+use kept::Kept;
 use std::marker::Model;
+
+mod kept;
 
 // A cell for each application that the largest budget allows.
 pub const CELLS: usize = 10000;
@@ -12,10 +14,10 @@ pub const CELLS: usize = 10000;
 // A frame for each of the 4,096 contexts that may stand around a step, and one for what the step itself is made of.
 pub const FRAMES: usize = 4097;
 
-// A value: a number with its tag; or a function, its LAM's row and the place where its parameters are bound.
+// A value: a number behind its tag, which stands first so that both take eight bytes; or a function, its LAM's row and the place where its parameters are bound.
 #[derive(Clone, Copy)]
 pub enum Datum {
-    Number(u32, u8),
+    Number(u8, u32),
     Function(u16, u16),
 }
 
@@ -46,32 +48,47 @@ pub struct Cell {
 // The frames that stand, seen as their list, the innermost first.
 #[derive(Drop)]
 pub struct Frames {
-    frames: [Frame; FRAMES],
     depth: u16,
+    frames: [Kept; FRAMES],
 }
 
 impl Model for Frames {
     ghost use Rattle.std.specs.Prelude.{List, ◌≤◌};
     ghost use Rattle.environments.specs.declared.Frame.{Frame};
     ghost use Rattle.environments.specs.Frames.{stacked};
+    ghost use Rattle.environments.specs.Kept.{frames_of};
 
     ghost Value = { List Frame };
 
-    ghost view = { λ s. stacked s.frames s.depth };
+    ghost view = { λ s. stacked (frames_of s.frames) s.depth };
 
     ghost invariant = { λ s. s.depth ≤ 4097 };
 }
 
 impl Frames {
-    // The first so many of an array, the last of them the innermost.
-    pub fn first(frames: [Frame; FRAMES], depth: usize) -> Frames
-        requires { depth ≤ 4097 }
-        ensures { result ≡ stacked frames depth }
+    pub fn empty() -> Frames
+        ensures { result ≡ [] }
     {
         Frames {
-            frames,
-            depth: depth as u16,
+            depth: 0,
+            frames: [Kept::ArgumentRow(0, 0); FRAMES],
         }
+    }
+
+    // So many frames stand from now on, whichever they are.
+    pub fn restart(&mut self, depth: usize)
+        requires { depth ≤ 4097 }
+        ensures { length self.new ≡ depth }
+    {
+        self.depth = depth as u16;
+    }
+
+    // Puts a frame in the place of one that stands; the innermost is the one at 0.
+    pub fn put(&mut self, j: usize, frame: Frame)
+        requires { j < length self.old }
+        ensures { self.new ≡ set self.old j frame }
+    {
+        self.frames[self.depth as usize - 1 - j] = Kept::from(frame);
     }
 
     pub fn len(&self) -> usize
@@ -84,7 +101,7 @@ impl Frames {
         requires { length self.old < 4097 }
         ensures { self.new ≡ frame ∷ self.old }
     {
-        self.frames[self.depth as usize] = frame;
+        self.frames[self.depth as usize] = Kept::from(frame);
         self.depth += 1;
     }
 
@@ -93,6 +110,6 @@ impl Frames {
         ensures { (self.old ≡ result ∷ self.new) × (length self.new ≤ 4096) }
     {
         self.depth -= 1;
-        self.frames[self.depth as usize]
+        Frame::from(self.frames[self.depth as usize])
     }
 }

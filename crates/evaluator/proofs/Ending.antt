@@ -29,7 +29,7 @@ ends_over {m} {word} {budget} {start} {c} {f} {p} v job at none st = by v (subst
   where
     by : (v : Datum) → Standing m word budget start c [] (Focus.Datum v) (counts_of p) →
         Runs (Tagged (ruling m)) budget start nothing_made (outcome (record { applications = p.applications; operations = p.operations; answer = Ok (answer_of v) }))
-    by (Datum.Number n tag) here = ends_with_number m job.is_well_formed word budget start job.safe here
+    by (Datum.Number tag n) here = ends_with_number m job.is_well_formed word budget start job.safe here
     by (Datum.Function i place) here = ends_with_function m job.is_well_formed word budget start job.safe here
 
 -- Frames of which there are none.

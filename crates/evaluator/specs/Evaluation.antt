@@ -33,7 +33,7 @@ outcome r = record { refusal = refusal_of r.answer; counts = record { applicatio
 
 -- A value as an answer.
 abbrev pub answer_of : Datum → Answer
-answer_of (Datum.Number n tag) = Number n tag
+answer_of (Datum.Number tag n) = Number n tag
 answer_of (Datum.Function i place) = Function
 
 -- A value under no frame is what a run comes to; at any other point it is not over.

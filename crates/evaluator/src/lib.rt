@@ -25,7 +25,7 @@ impl From<Datum> for Answer {
 
     fn from(value: Datum) -> Answer {
         match value {
-            Datum::Number(number, tag) => Answer::Number(number, tag),
+            Datum::Number(tag, number) => Answer::Number(number, tag),
             Datum::Function(_, _) => Answer::Function,
         }
     }

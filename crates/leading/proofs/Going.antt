@@ -8,16 +8,16 @@ use lib.Dec.{eqb}
 use lib.ListN.{length, get_or, set, drop, length-drop}
 use lib.Seq.{drop-cons, get_or-set_same, get_or-set_other}
 use borrow.Author.Tests.{eqb-true, eq-eqb}
-use Rattle.std.specs.Prelude.{Some}
+use mathlib.Core.Bool.{true}
 use Rattle.model.specs.Machine.{Machine, term_at}
 use Rattle.model.specs.WellFormed.{WellFormed}
 use Rattle.model.specs.Inference.{Slot, param, Shape}
 use Rattle.model.specs.declared.Term.TheVariants.{Lam}
 use Rattle.checks.proofs.Tests.{any_at, some_at}
 use Rattle.dryrun.specs.Expression.{leading_of}
-use Rattle.dryrun.specs.Run.{most_contexts, last_row, leading, NoArrow}
+use Rattle.dryrun.specs.Run.{last_row, leading, NoArrow}
 use Rattle.environments.specs.Standing.{row_of}
-use Rattle.environments.specs.Frames.{no_frame, stacked}
+use Rattle.environments.specs.Frames.{no_frame}
 use Rattle.environments.specs.declared.Datum.{Datum}
 use Rattle.environments.specs.declared.Focus.{Focus}
 use Rattle.environments.specs.declared.Frame.{Frame}
@@ -80,9 +80,9 @@ module _ (m : Machine) (w : WellFormed m) (word : Slot → ℕ) (shape : Slot �
       is_arrow e = arrow p (any_at (λ k. eqb p k) (leading m) j 0 more (eq-eqb p (get_or (leading m) j 0) (sym own))) e
 
       -- One number more.
-      pub going_more : length f ≡ suc most_contexts → j < length numbers → length numbers ≤ 256 → ¬ (shape (param p) ≡ Shape.arrow) →
-          Going m word shape numbers (set f (length numbers - 1 - j) (Frame.Argument (Focus.Datum (Datum.Number (get_or numbers j 0) (word (param p)))))) b (suc j)
-      going_more sized h few straight =
+      pub going_more : length f ≡ length numbers → j < length numbers → ¬ (shape (param p) ≡ Shape.arrow) →
+          Going m word shape numbers (set f j (Frame.Argument (Focus.Datum (Datum.Number (word (param p)) (get_or numbers j 0))))) b (suc j)
+      going_more sized h straight =
           record {
             rest = after;
             passed = more;
@@ -91,26 +91,26 @@ module _ (m : Machine) (w : WellFormed m) (word : Slot → ℕ) (shape : Slot �
           }
         where
           new : Frame
-          new = Frame.Argument (Focus.Datum (Datum.Number (get_or numbers j 0) (word (param p))))
+          new = Frame.Argument (Focus.Datum (Datum.Number (word (param p)) (get_or numbers j 0)))
 
           no_arrow : (k : ℕ) → Dec (k ≡ j) → k < suc j → ¬ (shape (param (get_or (leading m) k 0)) ≡ Shape.arrow)
           no_arrow k (yes e) below = rw (e, own) straight
           no_arrow k (no other) below = going.no_arrow k (omega arith)
 
-          filled : (k : ℕ) → Dec (k ≡ j) → k < suc j → Numbered (set f (length numbers - 1 - j) new) (length numbers - 1 - k) (word (param (get_or (leading m) k 0))) (get_or numbers k 0)
-          filled k (yes e) below = rw (e, own) (get_or-set_same f (length numbers - 1 - j) new no_frame (omega arith))
+          filled : (k : ℕ) → Dec (k ≡ j) → k < suc j → Numbered (set f j new) k (word (param (get_or (leading m) k 0))) (get_or numbers k 0)
+          filled k (yes e) below = rw (e, own) (get_or-set_same f j new no_frame (omega arith))
           filled k (no other) below =
-              get_or-set_other f (length numbers - 1 - j) (length numbers - 1 - k) new no_frame (λ e. let z : ⊥ = omega arith in z) ∙ going.filled k (omega arith)
+              get_or-set_other f j k new no_frame other ∙ going.filled k (omega arith)
 
     -- All numbers are put, and there is no further LAM.
-    pub leads : length numbers ≡ j → leading_of (leading_at m) (term_at m row) ≡ [] → Leads m word shape numbers (Some (stacked f (length numbers)))
-    leads all none =
+    pub leads : length f ≡ length numbers → length numbers ≡ j → leading_of (leading_at m) (term_at m row) ≡ [] → Leads m word shape numbers f true
+    leads sized all none =
         let same : length numbers ≡ length (leading m) = all ∙ sym (over none) in (
           same,
           λ p there e. no_arrow p there e,
           record {
             contexts = arguments word (leading m) numbers;
-            stack = λ c. arguments_stack m word c f (leading m) numbers same (subst (Numbers word f (leading m) numbers) (sym all) going.filled);
+            stack = λ c. arguments_stack m word c f (leading m) numbers sized same (subst (Numbers word f (leading m) numbers) (sym all) going.filled);
             plugged = arguments_plugged word (row_of m word (last_row m)) (leading m) numbers;
           },
         )

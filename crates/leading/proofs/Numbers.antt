@@ -1,14 +1,14 @@
 -- Frames that hold numbers, the first on top, are the stack of a job.
-use Prim.Native.Nat.{ℕ, suc, ◌-◌, ◌<◌}
+use Prim.Native.Nat.{ℕ, suc, ◌<◌}
 use native.Mathlib.Omega.{arith}
 use mathlib.Core.List.{List, [], ◌∷◌}
-use mathlib.Core.Path.{◌≡◌, refl, sym, subst}
+use mathlib.Core.Path.{◌≡◌, refl}
 use lib.ListN.{length, get_or}
 use Rattle.model.specs.Machine.{Machine}
 use Rattle.model.specs.Inference.{Slot, param}
 use Rattle.dryrun.specs.Expression.{Expression, number, apply, applied}
 use Rattle.environments.specs.Standing.{Context, argument, plug, Means, Stack, bottom, on_argument, a_value}
-use Rattle.environments.specs.Frames.{frame_in, stacked}
+use Rattle.environments.specs.Frames.{frame_in}
 use Rattle.environments.specs.declared.Datum.{Datum}
 use Rattle.environments.specs.declared.Focus.{Focus}
 use Rattle.environments.specs.declared.Frame.{Frame}
@@ -16,7 +16,7 @@ use Rattle.environments.specs.declared.Cell.{Cell}
 
 -- Frame d applies what stands inside to the number.
 abbrev pub Numbered : List Frame → ℕ → ℕ → ℕ → Type 0
-Numbered f d tag n = frame_in f d ≡ Frame.Argument (Focus.Datum (Datum.Number n tag))
+Numbered f d tag n = frame_in f d ≡ Frame.Argument (Focus.Datum (Datum.Number tag n))
 
 -- The frames of the parameters' numbers, the first parameter's innermost.
 abbrev pub arguments : (Slot → ℕ) → List ℕ → List ℕ → List Context
@@ -33,17 +33,16 @@ arguments_plugged word e (p ∷ ps) (n ∷ numbers) = arguments_plugged word (ap
 
 -- The first j numbers stand in the frames, the first on top.
 abbrev pub Numbers : (Slot → ℕ) → List Frame → List ℕ → List ℕ → ℕ → Type 0
-Numbers word f ps numbers j = (k : ℕ) → k < j → Numbered f (length numbers - 1 - k) (word (param (get_or ps k 0))) (get_or numbers k 0)
+Numbers word f ps numbers j = (k : ℕ) → k < j → Numbered f k (word (param (get_or ps k 0))) (get_or numbers k 0)
 
-module _ (m : Machine) (word : Slot → ℕ) (c : List Cell) (f : List Frame) where
+module _ (m : Machine) (word : Slot → ℕ) (c : List Cell) where
   -- As many frames as numbers are the stack, whatever the cells hold.
-  pub arguments_stack : (ps numbers : List ℕ) → length numbers ≡ length ps → Numbers word f ps numbers (length numbers) → Stack m word c 0 (stacked f (length numbers)) (arguments word ps numbers)
-  unfolding stacked
-  arguments_stack [] [] same filled = bottom
-  arguments_stack [] (n ∷ numbers) same filled = let z : ⊥ = omega arith in absurd z
-  arguments_stack (p ∷ ps) [] same filled = let z : ⊥ = omega arith in absurd z
-  arguments_stack (p ∷ ps) (n ∷ numbers) same filled =
-      rw (at 0 {d = length numbers} (omega arith) (omega arith)) (on_argument (a_value Means.a_number) (arguments_stack ps numbers (omega arith) (λ k h. at (suc k) (omega arith) (omega arith))))
-    where
-      at : (k : ℕ) {d : ℕ} → k < suc (length numbers) → d ≡ suc (length numbers) - 1 - k → Numbered f d (word (param (get_or (p ∷ ps) k 0))) (get_or (n ∷ numbers) k 0)
-      at k {d} h e = subst (λ (x : ℕ). Numbered f x (word (param (get_or (p ∷ ps) k 0))) (get_or (n ∷ numbers) k 0)) (sym e) (filled k h)
+  pub arguments_stack : (f : List Frame) (ps numbers : List ℕ) → length f ≡ length numbers → length numbers ≡ length ps → Numbers word f ps numbers (length numbers) →
+      Stack m word c 0 f (arguments word ps numbers)
+  arguments_stack [] [] [] sized same filled = bottom
+  arguments_stack (x ∷ f) ps [] sized same filled = let z : ⊥ = omega arith in absurd z
+  arguments_stack [] ps (n ∷ numbers) sized same filled = let z : ⊥ = omega arith in absurd z
+  arguments_stack f [] (n ∷ numbers) sized same filled = let z : ⊥ = omega arith in absurd z
+  arguments_stack f (p ∷ ps) [] sized same filled = let z : ⊥ = omega arith in absurd z
+  arguments_stack (x ∷ f) (p ∷ ps) (n ∷ numbers) sized same filled =
+      rw (filled 0 (omega arith)) (on_argument (a_value Means.a_number) (arguments_stack f ps numbers (omega arith) (omega arith) (λ k h. filled (suc k) (omega arith))))

@@ -2,11 +2,10 @@
 use Prim.Native.Nat.{ℕ, zero, suc, ◌+◌, ◌-◌, ◌≤◌, ◌<◌}
 use native.Mathlib.Omega.{arith}
 use native.Mathlib.Numerals.{add-one}
-use mathlib.Core.Bool.{false≢true}
+use mathlib.Core.Bool.{true, false, false≢true}
 use mathlib.Core.List.{List, []}
 use mathlib.Core.Path.{◌≡◌, refl, sym, ap, subst, ◌∙◌}
 use lib.ListN.{length, get_or, set, length-set}
-use Rattle.std.specs.Prelude.{Some, None}
 use Rattle.model.specs.Machine.{Machine, term_at, term_in}
 use Rattle.model.specs.WellFormed.{WellFormed}
 use Rattle.model.specs.Inference.{Shape}
@@ -15,8 +14,6 @@ use Rattle.model.specs.declared.TermRow.{TermRow}
 use Rattle.report.specs.Codes.{coded_word, coded_shape, shape_of_code}
 use Rattle.report.specs.declared.Codes.{Codes}
 use Rattle.dryrun.specs.Expression.{leading_of}
-use Rattle.dryrun.specs.Run.{most_contexts}
-use Rattle.environments.specs.Frames.{stacked}
 use Rattle.environments.specs.declared.Datum.{Datum}
 use Rattle.environments.specs.declared.Focus.{Focus}
 use Rattle.environments.specs.declared.Frame.{Frame}
@@ -33,19 +30,17 @@ code_straight (suc (suc c)) other e = false≢true cc
 -- What is known where the loop turns.
 pub record Underway (terms : List TermRow) (count : ℕ) (codes : Codes) (numbers : List ℕ) (f : List Frame) (row j : ℕ) : Type 0 where
   pub low : j ≤ length numbers
-  pub few : length numbers ≤ 256
   pub in_list : row < count
   pub lams : LamsStand terms count
-  pub sized : length f ≡ suc most_contexts
+  pub sized : length f ≡ length numbers
   pub going : (m : Machine) → WellFormed m → RowsIn m terms count → Going m (coded_word codes) (coded_shape codes) numbers f row j
 
 module _ {terms : List TermRow} {count : ℕ} {codes : Codes} {numbers : List ℕ} where
   -- At the last row, with no number put.
-  pub begins : {f : List Frame} → 0 < count → LamsStand terms count → length numbers ≤ 256 → length f ≡ suc most_contexts → Underway terms count codes numbers f (count - 1) 0
-  begins {f} some lams few sized =
+  pub begins : {f : List Frame} → 0 < count → LamsStand terms count → length f ≡ length numbers → Underway terms count codes numbers f (count - 1) 0
+  begins {f} some lams sized =
       record {
         low = omega arith;
-        few = few;
         in_list = omega arith;
         lams = lams;
         sized = sized;
@@ -63,19 +58,19 @@ module _ {terms : List TermRow} {count : ℕ} {codes : Codes} {numbers : List �
       no_lam {m} rows = leads_none (term_at m row) (λ p b is. none p b (sym (rows.same row at.in_list) ∙ is)) (leading_at m)
 
       -- The LAMs end before the numbers.
-      pub past_last : j < length numbers → AllLed terms count codes numbers None
+      pub past_last : j < length numbers → AllLed terms count codes numbers f false
       past_last more m w rows = too_many m w (coded_word codes) (coded_shape codes) numbers f row j (at.going m w rows) (row_in rows) more (no_lam rows)
 
       -- The numbers and the LAMs are at their end.
-      pub both-end : length numbers ≤ j → AllLed terms count codes numbers (Some (stacked f (length numbers)))
-      both-end all m w rows = leads m w (coded_word codes) (coded_shape codes) numbers f row j (at.going m w rows) (row_in rows) (omega (arith, at.low)) (no_lam rows)
+      pub both-end : length numbers ≤ j → AllLed terms count codes numbers f true
+      both-end all m w rows = leads m w (coded_word codes) (coded_shape codes) numbers f row j (at.going m w rows) (row_in rows) at.sized (omega (arith, at.low)) (no_lam rows)
 
     module _ {p b : ℕ} (lam : term_in terms row ≡ Lam p b) where
       a_lam : {m : Machine} → RowsIn m terms count → term_at m row ≡ Lam p b
       a_lam rows = rows.same row at.in_list ∙ lam
 
       -- The numbers end before the LAMs.
-      pub too_short : length numbers ≤ j → AllLed terms count codes numbers None
+      pub too_short : length numbers ≤ j → AllLed terms count codes numbers f false
       too_short all m w rows = too_few m w (coded_word codes) (coded_shape codes) numbers f row j (at.going m w rows) (row_in rows) p b (a_lam rows) (omega (arith, at.low))
 
       -- The LAM's parameter and its body may be looked up.
@@ -83,23 +78,22 @@ module _ {terms : List TermRow} {count : ℕ} {codes : Codes} {numbers : List �
       stands = at.lams row p b at.in_list lam
 
       -- The LAM's parameter has the code of ARROW.
-      pub at_arrow : get_or codes.paramshapes p 0 ≡ 1 → AllLed terms count codes numbers None
+      pub at_arrow : get_or codes.paramshapes p 0 ≡ 1 → AllLed terms count codes numbers f false
       at_arrow code m w rows =
           is_arrow m w (coded_word codes) (coded_shape codes) numbers f row j (at.going m w rows) (row_in rows) p b (a_lam rows) (ap shape_of_code code)
 
       -- The frame is put, and the loop turns.
       pub goes_on : j < length numbers → ¬ (get_or codes.paramshapes p 0 ≡ 1) →
-          Underway terms count codes numbers (set f (length numbers - 1 - j) (Frame.Argument (Focus.Datum (Datum.Number (get_or numbers j 0) (get_or codes.paramwords p 0))))) b (j + 1)
+          Underway terms count codes numbers (set f j (Frame.Argument (Focus.Datum (Datum.Number (get_or codes.paramwords p 0) (get_or numbers j 0))))) b (j + 1)
       goes_on more other =
-          let new = Frame.Argument (Focus.Datum (Datum.Number (get_or numbers j 0) (get_or codes.paramwords p 0))) in
+          let new = Frame.Argument (Focus.Datum (Datum.Number (get_or codes.paramwords p 0) (get_or numbers j 0))) in
           record {
             low = omega arith;
-            few = at.few;
             in_list = omega (arith, stands, at.in_list);
             lams = at.lams;
-            sized = length-set f (length numbers - 1 - j) new ∙ at.sized;
+            sized = length-set f j new ∙ at.sized;
             going = λ m w rows.
                 rw add-one
-                (going_more m w (coded_word codes) (coded_shape codes) numbers f row j (at.going m w rows) (row_in rows) p b (a_lam rows) at.sized more at.few
+                (going_more m w (coded_word codes) (coded_shape codes) numbers f row j (at.going m w rows) (row_in rows) p b (a_lam rows) at.sized more
                 (code_straight (get_or codes.paramshapes p 0) other));
           }

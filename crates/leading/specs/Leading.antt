@@ -1,6 +1,6 @@
 -- What stands for a job before its run: the numbers as frames around the last row, or why there is no run.
 -- Document 02, e).
-use Rattle.std.specs.Prelude.{ℕ, ◌<◌, true, List, ◌≡◌, length, Option, Some, None}
+use Rattle.std.specs.Prelude.{ℕ, ◌<◌, Bool, true, false, List, ◌≡◌, length}
 use Rattle.model.specs.Lists.{contains}
 use Rattle.model.specs.Machine.{Machine, term_in, term_at}
 use Rattle.model.specs.WellFormed.{WellFormed}
@@ -26,19 +26,19 @@ pub data Unfit (m : Machine) (shape : Slot → Shape) (numbers : List ℕ) : Typ
   arrow : (p : ℕ) → contains p (leading m) ≡ true → shape (param p) ≡ Shape.arrow → Unfit m shape numbers
 
 -- Whether the job may run: it is led, or why it has no run.
-abbrev pub Leads : Machine → (Slot → ℕ) → (Slot → Shape) → List ℕ → Option (List Frame) → Type 0
-Leads m word shape numbers (Some f) = (length numbers ≡ length (leading m)) × NoArrow m shape × Led m word numbers f
-Leads m word shape numbers None = Unfit m shape numbers
+abbrev pub Leads : Machine → (Slot → ℕ) → (Slot → Shape) → List ℕ → List Frame → Bool → Type 0
+Leads m word shape numbers f true = (length numbers ≡ length (leading m)) × NoArrow m shape × Led m word numbers f
+Leads m word shape numbers f false = Unfit m shape numbers
 
 -- The first rows of the array are the machine's.
 pub record RowsIn (m : Machine) (terms : List TermRow) (count : ℕ) : Type 0 where
   pub counted : length m.terms ≡ count
   pub same : (i : ℕ) → i < count → term_at m i ≡ term_in terms i
 
--- The answer is right for every machine that the arrays may be of.
-abbrev pub AllLed : List TermRow → ℕ → Codes → List ℕ → Option (List Frame) → Type 0
-AllLed terms count codes numbers r =
-    (m : Machine) → WellFormed m → RowsIn m terms count → Leads m (coded_word codes) (coded_shape codes) numbers r
+-- The answer and the frames are right for every machine that the arrays may be of.
+abbrev pub AllLed : List TermRow → ℕ → Codes → List ℕ → List Frame → Bool → Type 0
+AllLed terms count codes numbers f r =
+    (m : Machine) → WellFormed m → RowsIn m terms count → Leads m (coded_word codes) (coded_shape codes) numbers f r
 
 -- Each LAM among the first rows has a parameter of the 64, and its body is a row below its own.
 abbrev pub LamsStand : List TermRow → ℕ → Type 0

@@ -4,40 +4,46 @@
 ghost use Rattle.std.specs.Prelude.{◌<◌, ◌≤◌};
 ghost use Rattle.leading.specs.Leading.{LamsStand, AllLed};
 
-use environments::{Datum, FRAMES, Focus, Frame, Frames};
+use environments::{Datum, Focus, Frame, Frames};
 use model::{TERMS, Term, TermRow};
 use report::Codes;
 
 // The code of the shape ARROW.
 const ARROW: u8 = 1;
 
-// The numbers for the leading LAMs as frames, the outermost one's on top. None where there are not as many, or a leading parameter has the shape ARROW.
-pub fn lead(terms: [TermRow; TERMS], count: usize, codes: Codes, numbers: &[u32]) -> Option<Frames>
+// Puts the numbers for the leading LAMs as the frames that stand, the outermost one's on top. False where there are not as many, or a leading parameter has the shape ARROW.
+pub fn lead(
+    terms: [TermRow; TERMS],
+    count: usize,
+    codes: Codes,
+    numbers: &[u32],
+    frames: &mut Frames,
+) -> bool
     requires { (0 < count) × (count ≤ 256) × LamsStand terms count }
-    ensures { AllLed terms count codes numbers.now result }
+    ensures { AllLed terms count codes numbers.now frames.new result }
 {
     let size = numbers.len();
     if size > TERMS {
-        return None;
+        return false;
     }
-    let mut frames = [Frame::Argument(Focus::Row(0, 0)); FRAMES];
+    frames.restart(size);
     let mut row = count - 1;
     for (j, &number) in numbers.iter().enumerate() {
         let term = terms[row].term;
         let Term::Lam(param, body) = term else {
-            return None;
+            return false;
         };
         let p = param as usize;
         if codes.paramshapes[p] == ARROW {
-            return None;
+            return false;
         }
-        let argument = Datum::Number(number, codes.paramwords[p]);
-        frames[size - 1 - j] = Frame::Argument(Focus::Datum(argument));
+        let argument = Datum::Number(codes.paramwords[p], number);
+        frames.put(j, Frame::Argument(Focus::Datum(argument)));
         row = body as usize;
     }
     let last = terms[row].term;
     if let Term::Lam(_, _) = last {
-        return None;
+        return false;
     }
-    Some(Frames::first(frames, size))
+    true
 }

@@ -19,20 +19,20 @@ use Rattle.moves.proofs.Tops.{looks}
 
 -- The point at a result.
 abbrev pub resulted : Point → ℕ → ℕ → Point
-resulted p n tag = record { focus = Focus.Datum (Datum.Number n tag); applications = p.applications; operations = p.operations + 1 }
+resulted p n tag = record { focus = Focus.Datum (Datum.Number tag n); applications = p.applications; operations = p.operations + 1 }
 
 module _ {o budget : ℕ} {u v : Datum} {p : Point} where
   pub spent_before : p.applications + p.operations ≡ budget → Operates o u v budget p (Err Refusal.Limit)
   spent_before all m word start c f job low at st = stops (spent m job.is_well_formed word budget start job.safe (looks st at) all)
 
   -- Both operands are numbers.
-  pub no_left : ((x t : ℕ) → ¬ (u ≡ Datum.Number x t)) → Operates o u v budget p (Err Refusal.Limit)
-  no_left other m word start c f job low at st = let both = operands m job.is_well_formed word budget start job.safe (looks st at) in absurd (other both.x both.tag both.left_is)
+  pub no_left : ((t x : ℕ) → ¬ (u ≡ Datum.Number t x)) → Operates o u v budget p (Err Refusal.Limit)
+  no_left other m word start c f job low at st = let both = operands m job.is_well_formed word budget start job.safe (looks st at) in absurd (other both.tag both.x both.left_is)
 
-  pub no_right : ((y t : ℕ) → ¬ (v ≡ Datum.Number y t)) → Operates o u v budget p (Err Refusal.Limit)
-  no_right other m word start c f job low at st = let both = operands m job.is_well_formed word budget start job.safe (looks st at) in absurd (other both.y both.tag both.right_is)
+  pub no_right : ((t y : ℕ) → ¬ (v ≡ Datum.Number t y)) → Operates o u v budget p (Err Refusal.Limit)
+  no_right other m word start c f job low at st = let both = operands m job.is_well_formed word budget start job.safe (looks st at) in absurd (other both.tag both.y both.right_is)
 
-  module _ {x y t s result : ℕ} (unspent : ¬ (p.applications + p.operations ≡ budget)) (left_is : u ≡ Datum.Number x t) (right_is : v ≡ Datum.Number y s) (is : result ≡ calculated o x y) where
+  module _ {x y t s result : ℕ} (unspent : ¬ (p.applications + p.operations ≡ budget)) (left_is : u ≡ Datum.Number t x) (right_is : v ≡ Datum.Number s y) (is : result ≡ calculated o x y) where
     pub overflows_past : largest_number < result → Operates o u v budget p (Err Refusal.TooLarge)
     overflows_past past m word start c f job low at st =
         stops (overflows_at m job.is_well_formed word budget start job.safe (looks st at) {x = x} {y = y} {t = t} {s = s} left_is right_is unspent low (omega arith))
@@ -42,5 +42,5 @@ module _ {o budget : ℕ} {u v : Datum} {p : Point} where
         let st' = operates_on m job.is_well_formed word budget start job.safe (looks st at) {x = x} {y = y} {t = t} {s = s} left_is right_is unspent low (omega arith) in
         rw (eq, et, is)
         (leads_on st'
-        (step_remains budget (counts_of p) (counts_of (resulted p (calculated o x y) (result_tag o s))) (point_weight f (Focus.Datum (Datum.Number (calculated o x y) (result_tag o s))))
+        (step_remains budget (counts_of p) (counts_of (resulted p (calculated o x y) (result_tag o s))) (point_weight f (Focus.Datum (Datum.Number (result_tag o s) (calculated o x y))))
         (point_weight (Frame.Left o u ∷ f) p.focus) (omega arith) (omega arith) (standing_light m job.is_well_formed word st' (omega arith))))

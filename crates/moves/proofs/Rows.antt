@@ -56,13 +56,13 @@ module _ {term : Term} {own i place : ℕ} {c : List Cell} {f : List Frame} {p :
   on_lam this eq m word budget start job is said at st =
       rw eq (leads_on (at_lam m job.is_well_formed word budget start job.safe (looks st at) (is ∙ this)) (value_falls f p budget (Datum.Function i place) at))
 
-  pub on_num : {n : ℕ} {q : Point} → term ≡ Num n → q ≡ valued p (Datum.Number n own) → TurnsRow term own i place c f f p (Ok q)
+  pub on_num : {n : ℕ} {q : Point} → term ≡ Num n → q ≡ valued p (Datum.Number own n) → TurnsRow term own i place c f f p (Ok q)
   on_num {n} this eq m word budget start job is said at st =
-      rw (eq, ← said) (leads_on (at_num m job.is_well_formed word budget start job.safe (looks st at) (is ∙ this)) (value_falls f p budget (Datum.Number n (word (row i))) at))
+      rw (eq, ← said) (leads_on (at_num m job.is_well_formed word budget start job.safe (looks st at) (is ∙ this)) (value_falls f p budget (Datum.Number (word (row i)) n) at))
 
-  pub on_enc : {s n : ℕ} {q : Point} → term ≡ Enc s n → q ≡ valued p (Datum.Number n own) → TurnsRow term own i place c f f p (Ok q)
+  pub on_enc : {s n : ℕ} {q : Point} → term ≡ Enc s n → q ≡ valued p (Datum.Number own n) → TurnsRow term own i place c f f p (Ok q)
   on_enc {s} {n} this eq m word budget start job is said at st =
-      rw (eq, ← said) (leads_on (at_enc m job.is_well_formed word budget start job.safe (looks st at) (is ∙ this)) (value_falls f p budget (Datum.Number n (word (row i))) at))
+      rw (eq, ← said) (leads_on (at_enc m job.is_well_formed word budget start job.safe (looks st at) (is ∙ this)) (value_falls f p budget (Datum.Number (word (row i)) n) at))
 
   pub on_var : {x j : ℕ} {q : Point} → term ≡ Var x → Sought c x place j → q ≡ valued p (cell_in c j).datum → TurnsRow term own i place c f f p (Ok q)
   on_var {x} {j} this sought eq m word budget start job is said at st =

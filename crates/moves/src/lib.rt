@@ -78,8 +78,8 @@ pub fn turn_row(
 {
     match term {
         Term::Lam(_, _) => Ok(at_value(p, Datum::Function(row, place))),
-        Term::Num(n) => Ok(at_value(p, Datum::Number(n, word))),
-        Term::Enc(_, n) => Ok(at_value(p, Datum::Number(n, word))),
+        Term::Num(n) => Ok(at_value(p, Datum::Number(word, n))),
+        Term::Enc(_, n) => Ok(at_value(p, Datum::Number(word, n))),
         Term::Var(x) => {
             let cell = cells[cells::seek(cells, place, x)];
             Ok(at_value(p, cell.datum))

@@ -26,10 +26,10 @@ pub fn operate(
     if p.applications + p.operations == budget {
         return Err(Refusal::Limit);
     }
-    let Datum::Number(x, _) = left else {
+    let Datum::Number(_, x) = left else {
         return Err(Refusal::Limit);
     };
-    let Datum::Number(y, tag) = right else {
+    let Datum::Number(tag, y) = right else {
         return Err(Refusal::Limit);
     };
     let calculated = calculate(operation, x, y);
@@ -42,10 +42,10 @@ pub fn operate(
 // The point at a result, with one operation more.
 fn at_result(p: Point, number: u32, tag: u8) -> Point
     requires { p.operations < 10000 }
-    ensures { result ≡ record { focus = Focus.Datum (Datum.Number number tag); applications = p.applications; operations = p.operations + 1 } }
+    ensures { result ≡ record { focus = Focus.Datum (Datum.Number tag number); applications = p.applications; operations = p.operations + 1 } }
 {
     Point {
-        focus: Focus::Datum(Datum::Number(number, tag)),
+        focus: Focus::Datum(Datum::Number(tag, number)),
         operations: p.operations + 1,
         ..p
     }

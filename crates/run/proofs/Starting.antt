@@ -1,6 +1,7 @@
 -- An accepted program's job, as the first point of a run.
 use Prim.Native.Nat.{ℕ, ◌-◌, ◌≤◌, ◌<◌}
 use native.Mathlib.Omega.{arith}
+use mathlib.Core.Bool.{Bool, true, false, false≢true}
 use mathlib.Core.List.{List}
 use mathlib.Core.Path.{◌≡◌, refl, sym, ap, subst, ◌∙◌}
 use lib.ListN.{length}
@@ -28,7 +29,7 @@ use Rattle.environments.proofs.Close.{close_none}
 use Rattle.std.specs.Prelude.{Err}
 use Rattle.moves.specs.declared.Refusal.{Refusal}
 use Rattle.moves.specs.declared.Point.{Point}
-use Rattle.leading.specs.Leading.{Led, Unfit, LamsStand}
+use Rattle.leading.specs.Leading.{Led, Unfit, Leads, LamsStand}
 use Rattle.leading.specs.Leading as Leading
 use Rattle.evaluator.specs.Evaluation.{outcome, Begins, Evaluates}
 use Rattle.evaluator.specs.declared.Ran.{Ran}
@@ -66,6 +67,16 @@ module _ (t : Table) (ready : Ready t) (codes : Codes) (judged : Judged (ruling 
   led_rows {count} counted = record { counted = sym counted; same = λ i h. rows_in i (omega arith) }
 
   module _ (numbers : List ℕ) where
+    -- What the numbers were put for, by what `lead` answers.
+    pub unled : (f : List Frame) (r : Bool) → r ≡ false → Leads m word (coded_shape codes) numbers f r → Unfit m (coded_shape codes) numbers
+    unled f false e leads = leads
+    unled f true e leads = absurd (false≢true (sym e))
+
+    pub led : (f : List Frame) (r : Bool) → r ≡ true → Leads m word (coded_shape codes) numbers f r →
+        (length numbers ≡ length (leading m)) × NoArrow m (coded_shape codes) × Led m word numbers f
+    led f true e leads = leads
+    led f false e leads = absurd (false≢true e)
+
     -- 28
     pub unfit_refused : (budget : ℕ) {r : Ran} → Unfit m (coded_shape codes) numbers → r ≡ record { applications = 0; operations = 0; answer = Err Refusal.NotRun } → DryRuns m numbers budget (outcome r)
     unfit_refused budget (Unfit.wrong_count h) is = rw is (wrong_count judged h)

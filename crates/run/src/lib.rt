@@ -11,7 +11,7 @@ ghost use Rattle.dryrun.specs.Entry.{value_of, tag_of};
 ghost use Rattle.evaluator.specs.Evaluation.{answered, outcome};
 ghost use Rattle.run.specs.Answered.{Answered, returned};
 
-use environments::Focus;
+use environments::{Focus, Frames};
 use evaluator::{Answer, Ran, refused};
 use inference::judge;
 use leading::lead;
@@ -40,15 +40,18 @@ fn steps_allowed(budget: u32) -> u16
 }
 
 // The dry run of an accepted program, with the steps that its budget allows: from the last row on, with its numbers around it.
+// Never inlined, since its frames and cells take stack that no other call needs, the judgement before it among them.
+#[inline(never)]
 fn run_accepted(table: Table, codes: Codes, numbers: &[u32], steps: u16) -> Ran
     requires { Ready table × Judged (ruling (lists table)) (lists table) 0 0 (coded_word codes) (coded_shape codes) × (steps ≤ 10000) }
     ensures { (budget : ℕ) → steps ≡ allowed budget → DryRuns (lists table) numbers.now budget (outcome result) }
 {
     let terms = table.terms;
     let count = table.term_rows();
-    let Some(mut frames) = lead(terms, count, codes, numbers) else {
+    let mut frames = Frames::empty();
+    if !lead(terms, count, codes, numbers, &mut frames) {
         return refused(Refusal::NotRun, 0, 0);
-    };
+    }
     let words = codes.rowwords;
     let first = Point {
         focus: Focus::Row(count as u16 - 1, 0),

@@ -13,10 +13,10 @@ pub returns-then-codes-p-eq-ARROW : goal.returns-then-codes-p-eq-ARROW
 returns-then-codes-p-eq-ARROW c = at_arrow c.loop-j.invariant c.in-Lam.is c.if-codes-p-eq-ARROW.true
 
 pub loop-j-preserved : goal.loop-j-preserved
-loop-j-preserved c = goes_on c.loop-j.invariant c.in-Lam.is c.loop-j-test.true c.if-codes-p-eq-ARROW.false
+loop-j-preserved c = rw c.put.ensures (goes_on c.loop-j.invariant c.in-Lam.is c.loop-j-test.true c.if-codes-p-eq-ARROW.false)
 
 pub returns-in-Lam-last : goal.returns-in-Lam-last
 returns-in-Lam-last c = too_short c.loop-j.invariant c.in-Lam-last.is c.loop-j-test.false
 
 pub returns : goal.returns
-returns c = rw c.first.ensures (both-end c.loop-j.invariant c.in_default-last.not-Lam c.loop-j-test.false)
+returns c = both-end c.loop-j.invariant c.in_default-last.not-Lam c.loop-j-test.false
