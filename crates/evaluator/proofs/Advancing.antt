@@ -2,6 +2,7 @@
 use Prim.Native.Nat.{ℕ, ◌+◌, ◌≤◌, ◌<◌}
 use native.Mathlib.Omega.{arith}
 use mathlib.Core.List.{List, ◌∷◌}
+use mathlib.Core.Logic.{◌⊎◌, inl, inr}
 use mathlib.Core.Path.{◌≡◌, ap, subst, ◌∙◌}
 use lib.ListN.{length, get_or}
 use Rattle.std.specs.Prelude.{Result, Ok, Err}
@@ -13,7 +14,7 @@ use Rattle.environments.specs.declared.Frame.{Frame}
 use Rattle.environments.specs.declared.Cell.{Cell}
 use Rattle.environments.proofs.Turns.{row_in_list, row_place, called_function, called_place, left_operation}
 use Rattle.dryrun.specs.Run.{most_contexts}
-use Rattle.moves.specs.Moves.{TurnsRow, TurnsRound, Applies, Operates}
+use Rattle.moves.specs.Moves.{Waits, TurnsRow, TurnsRound, Applies, Operates}
 use Rattle.moves.specs.declared.Point.{Point}
 use Rattle.moves.specs.declared.Refusal.{Refusal}
 use Rattle.moves.proofs.Tops.{looks}
@@ -22,6 +23,11 @@ use Rattle.evaluator.specs.Evaluation.{Underway, Advances}
 -- What is known of a point under some frame is known under the frame by its form.
 pub underway_as : {terms : List TermRow} {words : List ℕ} {budget : ℕ} {c : List Cell} {x y : Frame} {f : List Frame} {p : Point} → x ≡ y → Underway terms words budget c (x ∷ f) p → Underway terms words budget c (y ∷ f) p
 underway_as {terms} {words} {budget} {c} {f = f} {p} is = subst (λ (x : Frame). Underway terms words budget c (x ∷ f) p) is
+
+-- A frame of either form that waits.
+pub either_waits : (top : Frame) → ((k : Focus) × (top ≡ Frame.Argument k)) ⊎ ((o : ℕ) × (k : Focus) × (top ≡ Frame.Right o k)) → Waits top
+either_waits top (inl (k, is)) = rw is tt
+either_waits top (inr (o, k, is)) = rw is tt
 
 -- A frame that holds what is a known value.
 pub called_is : {x : Frame} {u v : Datum} → x ≡ Frame.Called u → u ≡ v → x ≡ Frame.Called v

@@ -140,10 +140,7 @@ fn advance_under(
     ensures celled { Celled cells.new }
 {
     match top {
-        Frame::Argument(waiting) => { Ok(turn_round(Frame::Called(value), waiting, p, frames)) }
-        Frame::Right(operation, waiting) => {
-            Ok(turn_round(Frame::Left(operation, value), waiting, p, frames))
-        }
+        Frame::Argument(_) | Frame::Right(_, _) => Ok(turn_round(top, value, p, frames)),
         Frame::Called(called) => {
             let Datum::Function(row, held) = called else {
                 return Err(Refusal::Limit);

@@ -22,6 +22,13 @@ refusal_number Refusal.NotRun = 28
 refusal_number Refusal.TooLarge = 29
 refusal_number Refusal.Limit = 30
 
+-- A frame waits for an argument or for a right operand; any other holds a value.
+abbrev pub Waits : Frame → Type 0
+Waits (Frame.Argument k) = Unit {0}
+Waits (Frame.Right o k) = Unit {0}
+Waits (Frame.Called v) = ⊥
+Waits (Frame.Left o v) = ⊥
+
 -- The frame that holds a value in the place of one that waits, and what waited.
 pub data Holds : Frame → Focus → Frame → Focus → Type 0 where
   as_function : {k : Focus} {v : Datum} → Holds (Frame.Argument k) (Focus.Datum v) (Frame.Called v) k

@@ -4,7 +4,7 @@
 ghost use Rattle.std.specs.Prelude.{◌≡◌, ◌<◌, ◌≤◌, ◌∷◌, length};
 ghost use Rattle.environments.specs.declared.Focus.{Focus};
 ghost use Rattle.environments.specs.declared.Frame.{Frame};
-ghost use Rattle.moves.specs.Moves.{refusal_number, Holds, Celled, TurnsRow, TurnsRound};
+ghost use Rattle.moves.specs.Moves.{refusal_number, Waits, Holds, Celled, TurnsRow, TurnsRound};
 
 use environments::{CELLS, Cell, Datum, Focus, Frame, Frames};
 use model::Term;
@@ -101,14 +101,26 @@ pub fn turn_row(
     }
 }
 
-// A move at a value under a frame that waits, which was taken off: a frame that holds the value is put in its place, and what waited is looked at.
-pub fn turn_round(holding: Frame, waiting: Focus, p: Point, frames: &mut Frames) -> Point
+// A move at a value, its top frame taken off: under one that waits, a frame that holds the value is put in its place, and what waited is looked at.
+pub fn turn_round(top: Frame, value: Datum, p: Point, frames: &mut Frames) -> Point
     requires { length frames.old < 4097 }
-    ensures { (top : Frame) → Holds top p.focus holding waiting → TurnsRound (top ∷ frames.old) frames.new p result }
+    ensures { Waits top → p.focus ≡ Focus.Datum value → TurnsRound (top ∷ frames.old) frames.new p result }
 {
-    frames.push(holding);
+    let (frame, waiting) = holding(top, value);
+    frames.push(frame);
     Point {
         focus: waiting,
         ..p
+    }
+}
+
+// The frame that holds a value in the place of one that waits, and what waited; a frame that holds already stays, under the value.
+fn holding(top: Frame, value: Datum) -> (Frame, Focus)
+    ensures { Waits top → Holds top (Focus.Datum value) result.0 result.1 }
+{
+    match top {
+        Frame::Argument(waiting) => (Frame::Called(value), waiting),
+        Frame::Right(operation, waiting) => (Frame::Left(operation, value), waiting),
+        Frame::Called(_) | Frame::Left(_, _) => (top, Focus::Datum(value)),
     }
 }

@@ -1,15 +1,9 @@
-use Rattle.environments.specs.declared.Frame.{Frame}
-use Rattle.moves.specs.Moves.{as_function, as_left}
-use Rattle.evaluator.proofs.Advancing.{underway_as, called_is, made_within, held_row, by_round, by_call, no_call}
+use Rattle.evaluator.proofs.Advancing.{either_waits, underway_as, called_is, made_within, held_row, by_round, by_call, no_call}
 use Rattle.evaluator.proofs.advance_under.Goals as goal
 
 pub returns-in-Argument-clause-advanced : goal.returns-in-Argument-clause-advanced
 returns-in-Argument-clause-advanced c =
-    rw c.in-Argument.is (by_round c.args.terms.now c.args.words.now (c.turn_round.ensures (Frame.Argument c.in-Argument.waiting) (rw c.requires.fact_1.2 as_function)))
-
-pub returns-in-Right-clause-advanced : goal.returns-in-Right-clause-advanced
-returns-in-Right-clause-advanced c =
-    rw c.in-Right.is (by_round c.args.terms.now c.args.words.now (c.turn_round-in-Right.ensures (Frame.Right c.in-Right.operation c.in-Right.waiting) (rw c.requires.fact_1.2 as_left)))
+    by_round c.args.terms.now c.args.words.now (c.turn_round.ensures (either_waits c.args.top c.in-Argument.is) c.requires.fact_1.2)
 
 pub returns-in_default-clause-advanced : goal.returns-in_default-clause-advanced
 returns-in_default-clause-advanced c = rw c.in-Called.is (no_call c.args.terms.now c.args.words.now c.requires.fact_1.1 c.requires.fact_1.2 c.in_default.not-Function)
