@@ -1,10 +1,14 @@
 -- What the functions that answer lines leave.
-use Rattle.std.specs.Prelude.{ℕ, ◌+◌, ◌≤◌, min, cond, List, ◌++◌, ◌≡◌, leb, length, take}
+use Rattle.std.specs.Prelude.{ℕ, ◌+◌, ◌≤◌, min, cond, List, [], ◌∷◌, ◌++◌, ◌≡◌, leb, length, take}
 use Rattle.std.proofs.lemmas.List.Edits.{sets}
+use Rattle.model.specs.Number.{decimal}
 use Rattle.model.specs.Machine.{Machine}
+use Rattle.model.specs.Report.{line}
 use Rattle.conversation.specs.Script.{Command, command_of, file_in, Replies, Conversation, largest}
 use Rattle.table.specs.Lists.{lists}
 use Rattle.table.specs.Ready.{Ready}
+use Rattle.table.specs.declared.Answered.{Answered}
+use Rattle.report.specs.Writing.{Front}
 use Rattle.script.specs.declared.Turn.{Turn}
 
 -- The answer to the line s stands at the front of the buffer.
@@ -12,6 +16,10 @@ pub record Replied (m : Machine) (s buffer : List ℕ) (r : Turn) : Type 0 where
   pub replies : Replies m s (take r.size buffer) (lists r.table)
   pub ready : Ready r.table
   pub fits : r.size ≤ length buffer
+
+-- The number of a call stands at the front of the buffer, and its table is kept.
+abbrev pub Called : (Answered → Type 0) → List ℕ → Turn → Type 0
+Called made buffer o = (r : Answered) × made r × (o.table ≡ r.table) × Front (line (decimal r.number ∷ [])) buffer o.size
 
 -- What stands at the front of the buffer answers every line that is the command, which leaves the machine as it is.
 pub record Told (m : Machine) (c : Command) (buffer : List ℕ) (r : ℕ) : Type 0 where

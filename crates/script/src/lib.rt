@@ -4,11 +4,12 @@
 ghost use Rattle.std.specs.Prelude.{[], ◌∷◌, ◌≡◌, ◌≤◌, length};
 ghost use Rattle.model.specs.Number.{decimal};
 ghost use Rattle.model.specs.Report.{line};
-ghost use Rattle.conversation.specs.Script.{unknown, run_of, Responds};
-ghost use Rattle.table.specs.Lists.{lists};
+ghost use Rattle.model.specs.Machine.{added, redeclared, taken_back};
+ghost use Rattle.conversation.specs.Script.{unknown, run_of, restarted, file_in, Responds};
+ghost use Rattle.table.specs.Lists.{lists, change};
 ghost use Rattle.table.specs.Ready.{Ready};
 ghost use Rattle.report.specs.Writing.{Front};
-ghost use Rattle.script.specs.Turns.{Replied, Told, AnsweredAt, Tried, Put, Kept};
+ghost use Rattle.script.specs.Turns.{Replied, Called, Told, AnsweredAt, Tried, Put, Kept};
 
 use command::Command;
 use table::{Answered, Table};
@@ -39,19 +40,50 @@ pub fn answer<C: Calls>(table: Table, line: &[u8], buffer: &mut [u8]) -> Turn
     ensures { Replied (lists table) line.now buffer.new result }
 {
     match command::read(line) {
-        Command::Add => told(C::add(table, &line[4..]), buffer),
-        Command::Redeclare(p, code) => {
-            told(C::redeclare(table, p as usize, code as usize), buffer)
-        }
-        Command::TakeBack => told(C::take_back(table), buffer),
+        Command::Add => add::<C>(table, &line[4..], buffer),
+        Command::Redeclare(p, code) => redeclare::<C>(table, p as usize, code as usize, buffer),
+        Command::TakeBack => take_back::<C>(table, buffer),
         Command::Infer => unchanged(table, inference::print(table, buffer)),
-        Command::Schemes => told(calls::restart(table, &line[8..]), buffer),
+        Command::Schemes => restart(table, &line[8..], buffer),
         Command::Run => unchanged(table, write_run(table, &line[4..], buffer)),
         Command::Nothing => unchanged(table, write_unknown(buffer)),
     }
 }
 
-// The turn of a call that may change the table: its number is written. In one place, as each table that a function keeps costs its clearing.
+// The turn of an add. Each of the four calls keeps its own table here, as each table that `answer` kept would be cleared for every line.
+#[inline(never)]
+fn add<C: Calls>(table: Table, line: &[u8], buffer: &mut [u8]) -> Turn
+    requires { 6280 ≤ length buffer.old }
+    ensures { Called (λ r. (change r ≡ added (lists table) line.now) × (r.table.schemes ≡ table.schemes)) buffer.new result }
+{
+    told(C::add(table, line), buffer)
+}
+
+#[inline(never)]
+fn redeclare<C: Calls>(table: Table, p: usize, code: usize, buffer: &mut [u8]) -> Turn
+    requires { 6280 ≤ length buffer.old }
+    ensures { Called (λ r. (change r ≡ redeclared (lists table) p code) × (r.table.schemes ≡ table.schemes)) buffer.new result }
+{
+    told(C::redeclare(table, p, code), buffer)
+}
+
+#[inline(never)]
+fn take_back<C: Calls>(table: Table, buffer: &mut [u8]) -> Turn
+    requires { 6280 ≤ length buffer.old }
+    ensures { Called (λ r. (change r ≡ taken_back (lists table)) × (r.table.schemes ≡ table.schemes)) buffer.new result }
+{
+    told(C::take_back(table), buffer)
+}
+
+#[inline(never)]
+fn restart(table: Table, lines: &[u8], buffer: &mut [u8]) -> Turn
+    requires { Ready table × (6280 ≤ length buffer.old) }
+    ensures { Called (λ r. (change r ≡ restarted (lists table) (file_in lines.now)) × Ready r.table) buffer.new result }
+{
+    told(calls::restart(table, lines), buffer)
+}
+
+// The turn of a call that may change the table: its number is written.
 fn told(answered: Answered, buffer: &mut [u8]) -> Turn
     requires { (answered.number ≤ 27) × (6280 ≤ length buffer.old) }
     ensures { (result.table ≡ answered.table) × Front (line (decimal answered.number ∷ [])) buffer.new result.size }
