@@ -4,12 +4,12 @@ use native.Mathlib.Omega.{arith}
 use mathlib.Core.Bool.{Bool, false}
 use Rattle.std.specs.Prelude.{Ok, Err}
 use mathlib.Core.List.{List, [], ◌∷◌}
-use mathlib.Core.Path.{◌≡◌, refl, sym, ap, subst, subst₂, ◌∙◌}
+use mathlib.Core.Path.{◌≡◌, refl, sym, ap, subst, subst₂}
 use lib.ListN.{length, take}
 use Rattle.model.specs.Machine.{Machine}
 use Rattle.model.specs.Closed.{Closed}
-use Rattle.model.specs.Inference.{ruling, Slot, Shape, Cause, Refusal, FloorsMet, FloorMissed, Judged, not_closed, not_typable, below_floor, typed}
-use Rattle.model.specs.Session.{refusing, Infers, short, refused, accepted}
+use Rattle.model.specs.Inference.{ruling, Shape, Cause, Refusal, FloorsMet, FloorMissed, not_closed, not_typable, below_floor, typed}
+use Rattle.model.specs.Session.{Infers, short, refused, accepted}
 use Rattle.scheme.proofs.Schemes.{sound_short}
 use Rattle.schemes.specs.Schemes.{table_in}
 use Rattle.model.specs.Line.{fields}
@@ -24,7 +24,8 @@ use Rattle.solver.specs.Runs.{Placed, Governed}
 use Rattle.solver.specs.declared.Refused.{Refused}
 use Rattle.inference.specs.Outcome.{outcome}
 use Rattle.table.specs.Ready.{Ready}
-use Rattle.inference.specs.Judges.{Judges}
+use Rattle.inference.specs.Judges.{Judges, Refuses}
+use Rattle.inference.specs.declared.Unaccepted.{Unaccepted}
 
 -- Taking as many as were taken takes the same.
 take_taken : {A : Type 0} (n : ℕ) (l : List A) → take (length (take n l)) l ≡ take n l
@@ -69,21 +70,30 @@ accepted_row z (typed closed a met) = typed closed a met
 
 module _ {m : Machine} where
   -- 10
-  pub judges_open : {r : Refused} (closed : Bool) → Decides m closed → closed ≡ false → r ≡ record { number = 10; row = 0 } → Judges m (Err r)
-  judges_open closed decides e is = rw is (λ z. omega (arith, z), ((λ s. 0), (λ s. Shape.any), not_closed (decides.not_closed e)))
+  pub judges_open : {r : Refused} (closed : Bool) → Decides m closed → closed ≡ false → r ≡ record { number = 10; row = 0 } → Judges m (Err (Unaccepted.Refused r))
+  judges_open closed decides e is = rw is (λ z. omega (arith, z), λ word shape. not_closed (decides.not_closed e))
 
   -- 21 to 23
-  pub judges_untypable : {r : Refused} → Closed m → Refusal (ruling m) m r.number r.row → Judges m (Err r)
-  judges_untypable closed refusal = (cause_numbered refusal.cause, ((λ s. 0), (λ s. Shape.any), not_typable closed refusal))
+  pub judges_untypable : {r : Refused} → Closed m → Refusal (ruling m) m r.number r.row → Judges m (Err (Unaccepted.Refused r))
+  judges_untypable closed refusal = (cause_numbered refusal.cause, λ word shape. not_typable closed refusal)
 
   module _ {codes : Codes} (closed : Closed m) (placed : Placed m codes) where
     -- 24
-    pub judges_missed : {r : Refused} {p : ℕ} → FloorMissed (ruling m) m (coded_word codes) p → r ≡ record { number = 24; row = p } → Judges m (Err r)
-    judges_missed missed is = rw is (λ z. omega (arith, z), (coded_word codes, coded_shape codes, below_floor closed placed.0 missed))
+    pub judges_missed : {p : ℕ} → FloorMissed (ruling m) m (coded_word codes) p → Judges m (Err (Unaccepted.BelowFloor p codes))
+    judges_missed missed = below_floor closed placed.0 missed
 
     -- accepted
     pub judges_accepted : FloorsMet (ruling m) m (coded_word codes) → Judges m (Ok codes)
     judges_accepted met = (typed closed placed.0 met, placed.1)
+
+-- What is not accepted has a refusal, with some words and shapes.
+module _ {m : Machine} where
+  pub refused_refuses : {r : Refused} → Judges m (Err (Unaccepted.Refused r)) → Refuses m r
+  refused_refuses judges = (judges.0, ((λ s. 0), (λ s. Shape.any), judges.1 _ _))
+
+  pub unaccepted_refuses : (e : Unaccepted) → Judges m (Err e) → (r : Refused) × Refuses m r
+  unaccepted_refuses (Unaccepted.Refused r) judges = (r, refused_refuses judges)
+  unaccepted_refuses (Unaccepted.BelowFloor p codes) judges = (record { number = 24; row = p }, (λ z. omega (arith, z), (coded_word codes, coded_shape codes, judges)))
 
 module _ (m : Machine) (buffer : List ℕ) where
   -- 11
@@ -91,8 +101,8 @@ module _ (m : Machine) (buffer : List ℕ) where
   short_refused r h is = rw is (short h)
 
   -- a refusal
-  pub judged_refused : (r : Refused) → 6280 ≤ length buffer → Judges m (Err r) → Infers m buffer (outcome (Err r) buffer)
-  judged_refused r h judges = refused h judges.1.2 judges.0
+  pub judged_refused : (r : Refused) → 6280 ≤ length buffer → Refuses m r → Infers m buffer (outcome (Err r) buffer)
+  judged_refused r h refuses = refused h refuses.1.2 refuses.0
 
   -- the report
   pub report_written : (codes : Codes) → 6280 ≤ length buffer → Judges m (Ok codes) → (names : List (List ℕ)) (after : List ℕ) (params rows size : ℕ) → m.schemes.names ≡ names →

@@ -3,12 +3,13 @@
 
 ghost use Rattle.std.specs.Prelude.{◌≤◌, ◌<◌, length, IfErr};
 ghost use Rattle.model.specs.Closed.{Closed};
+ghost use Rattle.model.specs.Machine.{Machine};
 ghost use Rattle.model.specs.Session.{Infers};
 ghost use Rattle.table.specs.Lists.{lists};
 ghost use Rattle.report.specs.Written.{Written};
 ghost use Rattle.solver.specs.Runs.{Placed, Solves};
 ghost use Rattle.inference.specs.Outcome.{outcome};
-ghost use Rattle.inference.specs.Judges.{Judges};
+ghost use Rattle.inference.specs.Judges.{Judges, Refuses};
 ghost use Rattle.table.specs.Ready.{Ready};
 ghost use Rattle.inference.specs.Printed.{Printed};
 
@@ -16,6 +17,13 @@ use model::Program;
 use report::Codes;
 use solver::Refused;
 use table::Table;
+
+// Why a program is not accepted: a refusal with its row; or the lowest parameter that misses its floor, with the codes of the greatest typing.
+#[derive(Clone, Copy)]
+pub enum Unaccepted {
+    Refused(Refused),
+    BelowFloor(usize, Codes),
+}
 
 // The length of the longest report.
 pub const REPORT: usize = 6280;
@@ -32,7 +40,7 @@ pub fn infer(table: Table, buffer: &mut [u8]) -> Result<usize, Refused>
     // No `?` here or below: it calls std, whose code can't be linked, and `every_list_answered` links all that infer calls.
     match judge(table) {
         Ok(codes) => Ok(write(table, buffer, codes)),
-        Err(refused) => Err(refused),
+        Err(unaccepted) => Err(refusal_of(unaccepted)),
     }
 }
 
@@ -47,23 +55,32 @@ pub fn print(table: Table, buffer: &mut [u8]) -> usize
     }
 }
 
-// What is judged of the program that stands in the table: the codes of its words and shapes where it is accepted, or the refusal's number with its row,
-// or for 24 its parameter.
-pub fn judge(table: Table) -> Result<Codes, Refused>
+// The number and the row that infer refuses with: 24 and the parameter where a floor is missed.
+fn refusal_of(unaccepted: Unaccepted) -> Refused
+    ensures { (m : Machine) → Judges m (Err unaccepted) → Refuses m result }
+{
+    match unaccepted {
+        Unaccepted::Refused(refused) => refused,
+        Unaccepted::BelowFloor(p, _) => Refused { number: 24, row: p },
+    }
+}
+
+// What is judged of the program that stands in the table: the codes of its words and shapes where it is accepted, or why it is not.
+pub fn judge(table: Table) -> Result<Codes, Unaccepted>
     requires { Ready table }
     ensures { Judges (lists table) result }
 {
     if !closed::is_closed(table) {
-        return Err(Refused { number: 10, row: 0 });
+        return Err(Unaccepted::Refused(Refused { number: 10, row: 0 }));
     }
     match solve(table) {
         Ok(codes) => above_floors(table, codes),
-        Err(untypable) => Err(untypable),
+        Err(untypable) => Err(Unaccepted::Refused(untypable)),
     }
 }
 
 // What is judged of a closed program that has typings: it is accepted, or its lowest parameter that misses its floor is told.
-fn above_floors(table: Table, codes: Codes) -> Result<Codes, Refused>
+fn above_floors(table: Table, codes: Codes) -> Result<Codes, Unaccepted>
     requires { Ready table × Closed (lists table) × Placed (lists table) codes }
     ensures { Judges (lists table) result }
 {
@@ -72,7 +89,7 @@ fn above_floors(table: Table, codes: Codes) -> Result<Codes, Refused>
     let params = table.params;
     match floors::lowest_missed(&rule, params, table.parameters(), &words) {
         None => Ok(codes),
-        Some(p) => Err(Refused { number: 24, row: p }),
+        Some(p) => Err(Unaccepted::BelowFloor(p, codes)),
     }
 }
 

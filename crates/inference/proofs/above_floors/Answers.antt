@@ -1,5 +1,4 @@
 -- What is found of the floors is a refusal, or accepts.
-use mathlib.Core.Path.{refl}
 use Rattle.solver.proofs.Stops.{rule_lattice}
 use Rattle.inference.proofs.Floors.{codes_worded, every_met, one_missed}
 use Rattle.inference.proofs.Judging.{ready_governed, judges_missed, judges_accepted}
@@ -11,7 +10,7 @@ lowest_missed-requires c = let counted = c.parameters.ensures in
 
 pub returns-in-Some : goal.returns-in-Some
 returns-in-Some c = let missed = one_missed c.args.table c.requires.0 _ c.requires.2 _ c.parameters.ensures.0 _ (rw c.in-Some.is at c.lowest_missed.ensures) in
-    judges_missed c.requires.1 c.requires.2 missed refl
+    judges_missed c.requires.1 c.requires.2 missed
 
 pub returns-in-None : goal.returns-in-None
 returns-in-None c = let met = every_met c.args.table c.requires.0 _ c.requires.2 _ c.parameters.ensures.0 (rw c.in-None.is at c.lowest_missed.ensures) in

@@ -11,4 +11,5 @@ pub returns-in-Ok : goal.returns-in-Ok
 returns-in-Ok c = (report_written _ _ _ c.if-buffer-lt-REPORT.false c.in-Ok.ensures _ _ _ _ _ refl refl refl c.write.ensures, tt)
 
 pub returns-in-Err : goal.returns-in-Err
-returns-in-Err c = (judged_refused _ _ _ c.if-buffer-lt-REPORT.false c.in-Err.ensures, omega (arith, c.in-Err.ensures.0))
+returns-in-Err c = let refuses = c.refusal_of.ensures _ c.in-Err.ensures in
+    (judged_refused _ _ _ c.if-buffer-lt-REPORT.false refuses, omega (arith, refuses.0))
