@@ -8,7 +8,7 @@ use mathlib.Core.Path.{◌≡◌, refl, sym, ap, subst, subst₂}
 use lib.ListN.{length, take}
 use Rattle.model.specs.Machine.{Machine}
 use Rattle.model.specs.Closed.{Closed}
-use Rattle.model.specs.Inference.{ruling, Shape, Cause, Refusal, FloorsMet, FloorMissed, not_closed, not_typable, below_floor, typed}
+use Rattle.model.specs.Inference.{ruling, Slot, Shape, Cause, Refusal, FloorsMet, FloorMissed, Judged, not_closed, not_typable, below_floor, typed}
 use Rattle.model.specs.Session.{Infers, short, refused, accepted}
 use Rattle.scheme.proofs.Schemes.{sound_short}
 use Rattle.schemes.specs.Schemes.{table_in}
