@@ -31,14 +31,14 @@ extern "C" {
 #define PLACEMENT_SCHEMES_LENGTH 113
 
 /*
- * Stack to have free for a call of placement_report or placement_report_under, in bytes. Measured: 31,600 for ordinary tables, 47,800 for the
+ * Stack to have free for a call of placement_report or placement_report_under, in bytes. Measured: 33,300 for ordinary tables, 56,100 for the
  * deepest types found. Nothing proves a bound; kit/test measures all calls anew and holds them to this number and the next.
  */
 #define PLACEMENT_STACK_LENGTH 131072
 
 /*
- * The same for placement_run and placement_run_under, and for placement_session where its script has the command run. Measured: 175,800 for
- * ordinary tables and 192,000 for the deepest types found, in a session 214,900 and 231,200.
+ * The same for placement_run and placement_run_under, and for placement_session where its script has the command run. Measured: 159,700 for
+ * ordinary tables and for the deepest types found, in a session 181,000.
  */
 #define PLACEMENT_RUN_STACK_LENGTH 393216
 
