@@ -1,7 +1,7 @@
 // Infer: the report of the program that stands in a table, or why there is none.
 #![tactic(auto)]
 
-ghost use Rattle.std.specs.Prelude.{◌≤◌, ◌<◌, length, IfErr};
+ghost use Rattle.std.specs.Prelude.{◌≡◌, Err, ◌≤◌, ◌<◌, length, IfErr};
 ghost use Rattle.model.specs.Closed.{Closed};
 ghost use Rattle.model.specs.Machine.{Machine};
 ghost use Rattle.model.specs.Session.{Infers};
@@ -9,6 +9,7 @@ ghost use Rattle.table.specs.Lists.{lists};
 ghost use Rattle.report.specs.Written.{Written};
 ghost use Rattle.solver.specs.Runs.{Placed, Solves};
 ghost use Rattle.inference.specs.Outcome.{outcome};
+ghost use Rattle.inference.specs.declared.Unaccepted.{Unaccepted};
 ghost use Rattle.inference.specs.Judges.{Judges, Refuses};
 ghost use Rattle.table.specs.Ready.{Ready};
 ghost use Rattle.inference.specs.Printed.{Printed};
@@ -89,8 +90,16 @@ fn above_floors(table: Table, codes: Codes) -> Result<Codes, Unaccepted>
     let params = table.params;
     match floors::lowest_missed(&rule, params, table.parameters(), &words) {
         None => Ok(codes),
-        Some(p) => Err(Unaccepted::BelowFloor(p, codes)),
+        Some(p) => below_floor(p, codes),
     }
+}
+
+// Why a program whose parameter misses its floor is not accepted. Not inlined: else each infer clears and copies its codes word by word.
+#[inline(never)]
+fn below_floor(p: usize, codes: Codes) -> Result<Codes, Unaccepted>
+    ensures { result ≡ Err (Unaccepted.BelowFloor p codes) }
+{
+    Err(Unaccepted::BelowFloor(p, codes))
 }
 
 // Writes the report of the codes, and returns its length.

@@ -143,8 +143,11 @@ pub fn fill(program: Program, first: usize, words: &[u8; NODES], kinds: &[u16; N
     requires fact_2 { ((x : ℕ) → x < nodes → get_or words.now x 0 < first) }
     ensures { (m : Machine) → (ruling m).words ≡ first → Holds m program → WellFormed m → Filled m (λ x. get_or words.now x 0) (λ x. get_or kinds.now x 0) result }
 {
-    let types = &program.types[..program.typecount];
-    let params = &program.params[..program.paramcount];
+    // A slice of the program's own field would have the whole program copied.
+    let types = program.types;
+    let params = program.params;
+    let types = &types[..program.typecount];
+    let params = &params[..program.paramcount];
     let mut codes = Codes {
         variables: [UNLISTED; VARIABLES],
         paramwords: [0; PARAMS],

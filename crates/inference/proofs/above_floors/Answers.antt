@@ -10,7 +10,7 @@ lowest_missed-requires c = let counted = c.parameters.ensures in
 
 pub returns-in-Some : goal.returns-in-Some
 returns-in-Some c = let missed = one_missed c.args.table c.requires.0 _ c.requires.2 _ c.parameters.ensures.0 _ (rw c.in-Some.is at c.lowest_missed.ensures) in
-    judges_missed c.requires.1 c.requires.2 missed
+    rw c.below_floor.ensures (judges_missed c.requires.1 c.requires.2 missed)
 
 pub returns-in-None : goal.returns-in-None
 returns-in-None c = let met = every_met c.args.table c.requires.0 _ c.requires.2 _ c.parameters.ensures.0 (rw c.in-None.is at c.lowest_missed.ensures) in
