@@ -4,8 +4,9 @@ use native.Mathlib.Omega.{arith}
 use native.Mathlib.Numerals.{add-one}
 use mathlib.Core.List.{List, ◌∷◌}
 use mathlib.Core.Path.{◌≡◌, refl, ap, ap₂}
-use lib.ListN.{length, set}
+use lib.ListN.{length, set, take, get_or}
 use lib.Seq.{get_or-set_same, get_or-set_other}
+use Rattle.std.proofs.lemmas.List.{length-take, get_or-take}
 use Rattle.environments.specs.Frames.{no_frame, frame_in, stacked}
 use Rattle.environments.specs.declared.Frame.{Frame}
 
@@ -23,6 +24,15 @@ stacked_set f at (suc d) x h = ap₂ ◌∷◌ (get_or-set_other f at d x no_fra
 pub stacked_more : (f : List Frame) (d : ℕ) (x : Frame) → d < length f → stacked (set f d x) (d + 1) ≡ x ∷ stacked f d
 unfolding stacked
 stacked_more f d x h = rw add-one (ap₂ ◌∷◌ (get_or-set_same f d x no_frame h) (stacked_set f d d x (omega arith)))
+
+-- The first d of an array's first n stand, and there is a next.
+module _ (n : ℕ) (f : List Frame) (d : ℕ) {g : List Frame} (is : g ≡ stacked f d) (h : d < length (take n f)) where
+  pub first_more : get_or (take n f) d no_frame ∷ g ≡ stacked f (d + 1)
+  unfolding stacked
+  first_more = rw add-one (ap₂ ◌∷◌ (get_or-take n f d no_frame (omega (arith, length-take n f))) is)
+
+  pub first_within : length g < length f
+  first_within = omega (arith, length-take n f, ap (λ (g : List Frame). length g) is, stacked_length f d)
 
 pub stacked_less : (f : List Frame) (d : ℕ) → 0 < d → stacked f d ≡ frame_in f (d - 1) ∷ stacked f (d - 1)
 unfolding stacked

@@ -2,6 +2,7 @@
 #![tactic(auto)]
 
 ghost use Rattle.std.specs.Prelude.{◌≡◌, ◌≤◌, ◌<◌, [], ◌∷◌, length, set};
+ghost use Rattle.environments.specs.Frames.{stacked};
 
 use kept::Kept;
 use std::marker::Model;
@@ -75,6 +76,18 @@ impl Frames {
         }
     }
 
+    // The first so many of an array, the last of them the innermost.
+    pub fn first(frames: [Frame; FRAMES], depth: usize) -> Frames
+        requires { depth ≤ 4097 }
+        ensures { result ≡ stacked frames depth }
+    {
+        let mut first = Frames::empty();
+        for &frame in &frames[..depth] {
+            first.push(frame);
+        }
+        first
+    }
+
     // So many frames stand from now on, whichever they are.
     pub fn restart(&mut self, depth: usize)
         requires { depth ≤ 4097 }
@@ -111,5 +124,32 @@ impl Frames {
     {
         self.depth -= 1;
         Frame::from(self.frames[self.depth as usize])
+    }
+}
+
+#[cfg(test)]
+mod tests {
+    use super::*;
+
+    // The frames of an array's first places come off from the last of these on, and then none stands.
+    #[test]
+    fn first_of_an_array(rt: HostRuntime) {
+        let mut array = [Frame::Called(Datum::Number(0, 0)); FRAMES];
+        for k in 0..4097u16 {
+            array[k as usize] = Frame::Argument(Focus::Row(k, 1));
+        }
+        for depth in [0, 1, 3, FRAMES] {
+            let mut frames = Frames::first(array, depth);
+            assert_eq!(rt; frames.len(), depth);
+            for k in (0..depth).rev() {
+                assert!(rt; frames.len() > 0, "with {depth}");
+                let frame = frames.pop();
+                assert!(rt;
+                    matches!(frame, Frame::Argument(Focus::Row(row, 1)) if row as usize == k),
+                    "{k} of {depth}"
+                );
+            }
+            assert_eq!(rt; frames.len(), 0);
+        }
     }
 }
